@@ -1,0 +1,13 @@
+-- The laws of the definitions in specs/, by concept.
+pub mod BoolLaws
+pub mod BitLaws
+pub mod SetLaws
+pub mod MemberLaws
+pub mod PlaceLaws
+pub mod StateLaws
+pub mod CountLaws
+pub mod TotalLaws
+pub mod PositionLaws
+pub mod SequenceLaws
+pub mod Theorems
+pub mod Examples

@@ -1,0 +1,154 @@
+-- Laws of sequences: words and bindings, the state after one position more, how far its counts can grow, and the tests of
+-- `possible` and of the last state said of every position. Assumes nothing.
+use Prim.Native.Nat.{ℕ, zero, suc, _+_, _*_, _^_, _<_}
+use mathlib.Core.Path.{_≡_, refl, ap, subst}
+use mathlib.Core.Logic.{⊎-elim, _↔_}
+use mathlib.Core.Bool.{true}
+use mathlib.Core.List.{List, [], _∷_, _++_}
+use native.Mathlib.Numerals.{add-one}
+use native.Mathlib.Omega.{arith}
+use lib.ListN.{length, getD, take}
+use lib.Seq.{take-suc}
+use Rattle.obligations.specs.State.{nothing, count, possible, after, allZero, State}
+use Rattle.obligations.specs.Sequence.{Binding, bindings, words, at, run, ψ, Possible, possibleAt, firstImpossible, completes}
+use Rattle.obligations.proofs.BoolLaws.{and-left, and-right, and-both, true-or-false, false-not-true}
+use Rattle.obligations.proofs.StateLaws.{after-state, nothing-state}
+use Rattle.obligations.specs.Statements.{InputsAreMasks, EachPossible, ImpossibleAfter}
+use Rattle.obligations.proofs.CountLaws.{possible-count, count-possible, zero-count, count-zero}
+use Rattle.obligations.proofs.PositionLaws.{pass-first, first-pass, fails-first, first-fails}
+
+-- ---- words
+
+pub bindings-words : (s : List Binding) → bindings (words s) ≡ s
+unfolding bindings words
+bindings-words [] = refl
+bindings-words (b ∷ s) = ap (λ (t : List Binding). b ∷ t) (bindings-words s)
+
+pub length-words : (s : List Binding) → length (words s) ≡ 3 * length s
+unfolding words
+length-words [] = refl
+length-words (b ∷ s) = omega (arith, length-words s)
+
+-- words that are a multiple of three hold a third as many bindings, and nothing else
+pub words-bindings : (w : List ℕ) (n : ℕ) → length w ≡ 3 * n → words (bindings w) ≡ w
+unfolding bindings words
+words-bindings [] n e = refl
+words-bindings (a ∷ []) n e = absurd (omega arith)
+words-bindings (a ∷ x ∷ []) n e = absurd (omega arith)
+words-bindings (a ∷ x ∷ y ∷ w) zero e = absurd (omega arith)
+words-bindings (a ∷ x ∷ y ∷ w) (suc n) e = ap (λ (v : List ℕ). a ∷ x ∷ y ∷ v) (words-bindings w n (omega arith))
+
+pub length-bindings : (w : List ℕ) (n : ℕ) → length w ≡ 3 * n → length (bindings w) ≡ n
+unfolding bindings
+length-bindings [] n e = omega arith
+length-bindings (a ∷ []) n e = absurd (omega arith)
+length-bindings (a ∷ x ∷ []) n e = absurd (omega arith)
+length-bindings (a ∷ x ∷ y ∷ w) zero e = absurd (omega arith)
+length-bindings (a ∷ x ∷ y ∷ w) (suc n) e = ap suc (length-bindings w n (omega arith))
+
+-- the binding after i others stands in the words from 3 * i on
+pub record HeldAt (w : List ℕ) (i : ℕ) : Type 0 where
+  pub activity-held : at (bindings w) i .activity ≡ getD w (3 * i) 0
+  pub input-held : at (bindings w) i .input ≡ getD w (3 * i + 1) 0
+  pub output-held : at (bindings w) i .output ≡ getD w (3 * i + 2) 0
+
+pub held-at : (w : List ℕ) (i : ℕ) → i < length (bindings w) → HeldAt w i
+unfolding bindings
+held-at [] i h = absurd (omega arith)
+held-at (a ∷ []) i h = absurd (omega arith)
+held-at (a ∷ x ∷ []) i h = absurd (omega arith)
+held-at (a ∷ x ∷ y ∷ w) zero h = record { activity-held = refl; input-held = refl; output-held = refl }
+held-at (a ∷ x ∷ y ∷ w) (suc i) h =
+    let r = held-at w i (omega arith) in
+    let e : 3 * suc i ≡ suc (suc (suc (3 * i))) = omega arith in
+    let e₁ : 3 * suc i + 1 ≡ suc (suc (suc (3 * i + 1))) = omega arith in
+    let e₂ : 3 * suc i + 2 ≡ suc (suc (suc (3 * i + 2))) = omega arith in
+    record { activity-held = rw e (r .activity-held); input-held = rw e₁ (r .input-held); output-held = rw e₂ (r .output-held) }
+
+-- ---- the state after one position more
+
+abbrev pub fired : List ℕ → Binding → List ℕ
+fired d b = after d (b .activity) (b .input) (b .output)
+
+pub run-append : (d : List ℕ) (s t : List Binding) → run d (s ++ t) ≡ run (run d s) t
+unfolding run
+run-append d [] t = refl
+run-append d (b ∷ s) t = run-append (fired d b) s t
+
+pub ψ-next : (s : List Binding) (i : ℕ) → i < length s → ψ (take (i + 1) s) ≡ fired (ψ (take i s)) (at s i)
+unfolding run
+ψ-next s i h = rw (add-one i, take-suc s i (record { activity = 0; input = 0; output = 0 }) h) (run-append nothing (take i s) (at s i ∷ []))
+
+pub run-state : (n : ℕ) (d : List ℕ) (s : List Binding) → State n d → State (n + length s) (run d s)
+unfolding run
+run-state n d [] h = subst (λ (k : ℕ). State k d) (omega arith) h
+run-state n d (b ∷ s) h = subst (λ (k : ℕ). State k (run (fired d b) s)) (omega arith) (run-state (n + 1) (fired d b) s (after-state n d (b .activity) (b .input) (b .output) h))
+
+-- a count never exceeds the number of positions so far
+pub ψ-state : (s : List Binding) → State (length s) (ψ s)
+ψ-state s = subst (λ (k : ℕ). State k (ψ s)) (omega arith) (run-state 0 nothing s nothing-state)
+
+-- ---- each binding possible after those before it
+
+pub possible-at : (s : List Binding) (i : ℕ) → at s i .input < 2 ^ 32 → (possibleAt s i ≡ true) ↔ Possible (ψ (take i s)) (at s i)
+unfolding possibleAt
+possible-at s i h =
+    (possible-count (ψ (take i s)) (at s i .activity) (at s i .input) h, count-possible (ψ (take i s)) (at s i .activity) (at s i .input))
+
+pub none-impossible : (s : List Binding) → InputsAreMasks s → (firstImpossible s ≡ 0) ↔ EachPossible s
+unfolding firstImpossible
+none-impossible s m = (
+  (λ e i l. possible-at s i (m i l) .0 (first-pass (length s) (possibleAt s) e i l)),
+  (λ h. pass-first (length s) (possibleAt s) (λ i l. possible-at s i (m i l) .1 (h i l))),
+)
+
+pub first-impossible : (s : List Binding) → InputsAreMasks s → (i : ℕ) → (firstImpossible s ≡ suc i) ↔ ImpossibleAfter s i
+unfolding firstImpossible
+first-impossible s m i = (after-others, back)
+  where
+    after-others : firstImpossible s ≡ suc i → ImpossibleAfter s i
+    after-others e =
+        let f = first-fails (length s) (possibleAt s) i e in
+        record {
+          inside = f .inside;
+          before-possible = λ j l. possible-at s j (m j (omega (arith, f .inside))) .0 (f .before j l);
+          own-not = λ p. false-not-true (f .fails) (possible-at s i (m i (f .inside)) .1 p);
+        }
+
+    back : ImpossibleAfter s i → firstImpossible s ≡ suc i
+    back f =
+        fails-first (length s) (possibleAt s) i
+        (record {
+          inside = f .inside;
+          before = λ j l. possible-at s j (m j (omega (arith, f .inside))) .1 (f .before-possible j l);
+          fails = ⊎-elim (λ t. absurd (f .own-not (possible-at s i (m i (f .inside)) .0 t))) (λ e. e) (true-or-false (possibleAt s i));
+        })
+
+-- ---- completing, said of every position and of the last state
+
+-- from the state d on, each binding is possible after those before it
+abbrev pub EachFrom : List ℕ → List Binding → Type 0
+EachFrom d s = (i : ℕ) → i < length s → possible (run d (take i s)) (at s i .activity) (at s i .input) ≡ true
+
+pub completes-each : (d : List ℕ) (s : List Binding) → completes d s ≡ true → EachFrom d s
+unfolding completes run
+completes-each d [] e i h = absurd (omega arith)
+completes-each d (b ∷ s) e zero h = and-left (possible d (b .activity) (b .input)) (completes (fired d b) s) e
+completes-each d (b ∷ s) e (suc i) h = completes-each (fired d b) s (and-right (possible d (b .activity) (b .input)) (completes (fired d b) s) e) i (omega arith)
+
+pub completes-zero : (d : List ℕ) (s : List Binding) → completes d s ≡ true → allZero (run d s) ≡ true
+unfolding completes run
+completes-zero d [] e = e
+completes-zero d (b ∷ s) e = completes-zero (fired d b) s (and-right (possible d (b .activity) (b .input)) (completes (fired d b) s) e)
+
+pub each-completes : (d : List ℕ) (s : List Binding) → EachFrom d s → allZero (run d s) ≡ true → completes d s ≡ true
+unfolding completes run
+each-completes d [] h z = z
+each-completes d (b ∷ s) h z = and-both (h 0 (omega arith)) (each-completes (fired d b) s (λ i l. h (suc i) (omega arith)) z)
+
+pub completes-both : (s : List Binding) → InputsAreMasks s → (completes nothing s ≡ true) ↔ (EachPossible s × ((p q : ℕ) → count (ψ s) p q ≡ 0))
+unfolding possibleAt
+completes-both s m = (
+  (λ e. ((λ i l. possible-at s i (m i l) .0 (completes-each nothing s e i l)), zero-count (ψ s) (completes-zero nothing s e))),
+  (λ w. each-completes nothing s (λ i l. possible-at s i (m i l) .1 (w .0 i l)) (count-zero (ψ s) (w .1))),
+)

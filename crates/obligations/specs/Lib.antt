@@ -1,0 +1,7 @@
+-- The definitions that the contracts of `obligations` cite, and the statements proved of them.
+pub mod Limits
+pub mod Tests
+pub mod Sets
+pub mod State
+pub mod Sequence
+pub mod Statements

@@ -1,0 +1,15 @@
+// Sets of activities, and the state of pending obligations with the step that changes it (paper 01, "The net and its
+// sets" and "Obligations and the step"). The lowest layer: what stands above uses only these contracts and the laws
+// about the definitions in specs/.
+
+pub mod sets;
+pub mod state;
+
+// Activities are the numbers below this.
+pub const ACTIVITIES: u32 = 32;
+
+// The pairs (p, q) of activities: how many counts a state has.
+pub const PAIRS: usize = 1024;
+
+// A sequence or a trace has at most this many positions.
+pub const POSITIONS: usize = 64;

@@ -1,0 +1,144 @@
+// The state of pending obligations: a count for each pair (p, q), how often q is still due because of p, in an array that
+// the caller lends and that is changed in place. The counts of one q stand together, at q * 32 + p.
+//
+// These functions are called by the layers above and by nobody else. Their `requires` are those that a caller has at
+// hand: the activity is one, and no count is above 254, since a count is at most the number of positions so far.
+
+ghost use mathlib.Core.Path.{_≡_};
+ghost use mathlib.Core.Bool.{true};
+ghost use Prim.Native.Nat.{_<_, _+_, _*_};
+ghost use lib.ListN.{length};
+ghost use Rattle.obligations.specs.Limits.{activities, pairs};
+ghost use Rattle.obligations.specs.State.{places, allDue, lowered, raised, possible, taken, added, stepped, covers, unadded, untaken, before, allZero, State};
+
+// Whether the binding of a with the input set x is possible: every (p, a) with p in x has a count of at least 1.
+pub fn is_possible(due: &[u8; 1024], a: u32, x: u32) -> bool
+    requires { ⌜ a < activities ⌝ }
+    ensures { λ r. ⌜ r ≡ possible (now (due .entry)) a x ⌝ }
+{
+    all_due(due, a * 32, 1, x)
+}
+
+// Takes one from each (p, a) with p in x.
+pub fn take(due: &mut [u8; 1024], a: u32, x: u32)
+    requires { ⌜ a < activities ⌝ }
+    requires { ⌜ possible (now due) a x ≡ true ⌝ }
+    ensures { λ _. ⌜ now (due .exit) ≡ taken (now (due .entry)) a x ⌝ }
+{
+    lower(due, a * 32, 1, x);
+}
+
+// Adds one to each (a, q) with q in y.
+pub fn add(due: &mut [u8; 1024], a: u32, y: u32)
+    requires { ⌜ a < activities ⌝ }
+    requires { ⌜ State 254 (now due) ⌝ }
+    ensures { λ _. ⌜ now (due .exit) ≡ added (now (due .entry)) a y ⌝ }
+{
+    raise(due, a, 32, y);
+}
+
+// Undoes `take`.
+pub fn undo_take(due: &mut [u8; 1024], a: u32, x: u32)
+    requires { ⌜ a < activities ⌝ }
+    requires { ⌜ State 254 (now due) ⌝ }
+    ensures { λ _. ⌜ now (due .exit) ≡ untaken (now (due .entry)) a x ⌝ }
+{
+    raise(due, a * 32, 1, x);
+}
+
+// Undoes `add`.
+pub fn undo_add(due: &mut [u8; 1024], a: u32, y: u32)
+    requires { ⌜ a < activities ⌝ }
+    requires { ⌜ covers (now due) a y ≡ true ⌝ }
+    ensures { λ _. ⌜ now (due .exit) ≡ unadded (now (due .entry)) a y ⌝ }
+{
+    lower(due, a, 32, y);
+}
+
+// Takes the step of the binding (a, x, y) and answers true, if it is possible; else changes nothing and answers false.
+// What y adds can't serve x of the same step: x is tested and taken first.
+pub fn step(due: &mut [u8; 1024], a: u32, x: u32, y: u32) -> bool
+    requires { ⌜ a < activities ⌝ }
+    requires { ⌜ State 254 (now due) ⌝ }
+    ensures { λ r. ⌜ (r ≡ possible (now (due .entry)) a x) × (now (due .exit) ≡ stepped r (now (due .entry)) a x y) ⌝ }
+{
+    if is_possible(due, a, x) {
+        take(due, a, x);
+        add(due, a, y);
+        true
+    } else {
+        false
+    }
+}
+
+// Brings back the state before a possible step of the binding (a, x, y).
+pub fn undo(due: &mut [u8; 1024], a: u32, x: u32, y: u32)
+    requires { ⌜ a < activities ⌝ }
+    requires { ⌜ State 254 (now due) ⌝ }
+    requires { ⌜ covers (now due) a y ≡ true ⌝ }
+    ensures { λ _. ⌜ now (due .exit) ≡ before (now (due .entry)) a x y ⌝ }
+{
+    undo_add(due, a, y);
+    undo_take(due, a, x);
+}
+
+// Whether every count is zero. No way out of the loop, so that it is compiled to vector operations.
+pub fn is_zero(due: &[u8; 1024]) -> bool
+    requires { ⌜ length (now due) ≡ pairs ⌝ }
+    ensures { λ r. ⌜ r ≡ allZero (now (due .entry)) ⌝ }
+{
+    let mut seen: u8 = 0;
+    let mut i = 0;
+    while i < 1024 {
+        seen |= due[i];
+        i += 1;
+    }
+    seen == 0
+}
+
+// Whether each place base + k * stride, for k in the set, has a count of at least 1.
+fn all_due(due: &[u8; 1024], base: u32, stride: u32, set: u32) -> bool
+    requires { ⌜ base + 31 * stride < pairs ⌝ }
+    ensures { λ r. ⌜ r ≡ allDue (now (due .entry)) (places base stride set) ⌝ }
+{
+    let mut rest = set;
+    while rest != 0 {
+        let k = u32::trailing_zeros(rest);
+        let i = (base + k * stride) as usize;
+        if due[i] == 0 {
+            return false;
+        }
+        rest &= rest - 1;
+    }
+    true
+}
+
+// Takes one from each place base + k * stride, for k in the set.
+fn lower(due: &mut [u8; 1024], base: u32, stride: u32, set: u32)
+    requires { ⌜ (base + 31 * stride < pairs) × (0 < stride) ⌝ }
+    requires { ⌜ allDue (now due) (places base stride set) ≡ true ⌝ }
+    ensures { λ _. ⌜ now (due .exit) ≡ lowered (now (due .entry)) (places base stride set) ⌝ }
+{
+    let mut rest = set;
+    while rest != 0 {
+        let k = u32::trailing_zeros(rest);
+        let i = (base + k * stride) as usize;
+        due[i] -= 1;
+        rest &= rest - 1;
+    }
+}
+
+// Adds one to each place base + k * stride, for k in the set.
+fn raise(due: &mut [u8; 1024], base: u32, stride: u32, set: u32)
+    requires { ⌜ (base + 31 * stride < pairs) × (0 < stride) ⌝ }
+    requires { ⌜ State 254 (now due) ⌝ }
+    ensures { λ _. ⌜ now (due .exit) ≡ raised (now (due .entry)) (places base stride set) ⌝ }
+{
+    let mut rest = set;
+    while rest != 0 {
+        let k = u32::trailing_zeros(rest);
+        let i = (base + k * stride) as usize;
+        due[i] += 1;
+        rest &= rest - 1;
+    }
+}
