@@ -8,6 +8,7 @@ pub mod StateLaws
 pub mod CountLaws
 pub mod TotalLaws
 pub mod PositionLaws
+pub mod TraceLaws
 pub mod SequenceLaws
 pub mod Theorems
 pub mod Examples

@@ -7,12 +7,13 @@ use mathlib.Core.Bool.{Bool, true}
 use mathlib.Core.List.{List, [], _∷_, List·Memᴰ, List·Memᴰ·head, List·Memᴰ·tail, List·Memᴰ·cases-cons, List·Memᴰ·not-nil}
 use native.Mathlib.Nat.{mod-lt, add-zero, zero-add, pow-suc}
 use native.Mathlib.Omega.{arith}
+use borrow.Author.Tests.{lt-ltb}
 use lib.Bits.{bitAnd, and-step, and-self}
 use lib.Count.{ones, onesIn, ones-step, trailingZeros, under}
 use lib.Dec.{lit<}
 use lib.ListN.{length}
 use Rattle.obligations.specs.Tests.{indicator, number}
-use Rattle.obligations.specs.Sets.{bit, member, keep, membersFrom, members, size}
+use Rattle.obligations.specs.Sets.{bit, member, single, keep, membersFrom, members, size}
 use Rattle.obligations.proofs.BitLaws.{half-lt, parity, bit-zero, bit-suc}
 use Rattle.obligations.proofs.SetLaws.{member-bit, bit-member, bit-indicator, member-suc, member-activity}
 
@@ -111,6 +112,15 @@ pub size-ones : (m : ℕ) → m < 2 ^ 32 → size m ≡ ones m
 unfolding size members
 size-ones m h = length-ones 32 0 m h
 
+length-le : (n k m : ℕ) → length (membersFrom n k m) ≤ n
+unfolding membersFrom
+length-le zero k m = omega arith
+length-le (suc n) k m = omega (arith, length-keep (m % 2) k (membersFrom n (suc k) (m / 2)) (mod-lt m (lit< tt)), length-le n (suc k) (m / 2), mod-lt m {m = 2} (lit< tt))
+
+pub size-le : (m : ℕ) → size m ≤ 32
+unfolding size members
+size-le m = length-le 32 0 m
+
 -- and the number of activities that are members
 number-ext : (n : ℕ) (t u : ℕ → Bool) → ((k : ℕ) → t k ≡ u k) → number n t ≡ number n u
 unfolding number
@@ -179,3 +189,28 @@ members-are m k h = (
 -- a set that isn't empty has a member
 pub some-member : (m : ℕ) → 0 < m → m < 2 ^ 32 → (k : ℕ) × (member m k ≡ true)
 some-member m p h = (trailingZeros 32 m, members-are m (trailingZeros 32 m) h .0 (rw (members-walk m p h) (List·Memᴰ·head refl)))
+
+-- ---- no member, and one
+
+from-none : (n k : ℕ) → membersFrom n k 0 ≡ []
+unfolding membersFrom keep
+from-none zero k = refl
+from-none (suc n) k = from-none n (suc k)
+
+from-single : (n k a : ℕ) → a < n → membersFrom n k (2 ^ a) ≡ (k + a) ∷ []
+unfolding membersFrom keep
+from-single zero k a h = absurd (omega arith)
+from-single (suc n) k zero h = rw (add-zero k) (ap (λ (l : List ℕ). k ∷ l) (from-none n (suc k)))
+from-single (suc n) k (suc a) h =
+    let q = pow-suc 2 a in
+    let e₁ : 2 ^ suc a % 2 ≡ 0 = omega arith in
+    let e₂ : 2 ^ suc a / 2 ≡ 2 ^ a = omega arith in
+    let e₃ : k + suc a ≡ suc k + a = omega arith in
+    rw (e₁, e₂, e₃) (from-single n (suc k) a (omega arith))
+
+pub members-single : (a : ℕ) → a < 32 → members (single a) ≡ a ∷ []
+unfolding members single
+members-single a h = rw (lt-ltb a 32 h) (from-single 32 0 a h ∙ ap (λ (k : ℕ). k ∷ []) (zero-add a))
+
+pub single-filled : (a : ℕ) → a < 32 → single a ≡ 0 → ⊥
+single-filled a h e = let z = ap length (sym (members-single a h) ∙ ap members e ∙ members-none) in omega arith

@@ -13,12 +13,12 @@ use lib.Count.{trailingZeros}
 use lib.Dec.{leb, lit<}
 use lib.ListN.{length, getD, set, length-set, length-map, List·getD-eq-default}
 use lib.Pow.{pow-pos}
-use Rattle.obligations.specs.Sets.{bit, keep, membersFrom, members, size}
+use Rattle.obligations.specs.Sets.{bit, single, keep, membersFrom, members, size}
 use Rattle.obligations.specs.State.{places, allDue, lowered, raised, State}
 use Rattle.obligations.proofs.BoolLaws.{and-left, and-right, and-both}
 use Rattle.obligations.proofs.BitLaws.{bit-lt, bit-zero, bit-suc, same, same-refl, same-cases, same-ne}
 use Rattle.obligations.proofs.SetLaws.{lt-or-le}
-use Rattle.obligations.proofs.MemberLaws.{members-walk, members-none, lowest, drop-lowest}
+use Rattle.obligations.proofs.MemberLaws.{members-walk, members-none, members-single, lowest, drop-lowest}
 
 -- how often a place stands among places
 unfoldable pub occ : ℕ → List ℕ → ℕ
@@ -216,6 +216,10 @@ module _ (base stride : ℕ) where
 pub places-none : (base stride : ℕ) → places base stride 0 ≡ []
 unfolding places
 places-none base stride = ap (map (λ (k : ℕ). base + k * stride)) members-none
+
+pub places-single : (base stride a : ℕ) → a < 32 → places base stride (single a) ≡ (base + a * stride) ∷ []
+unfolding places
+places-single base stride a h = ap (map (λ (k : ℕ). base + k * stride)) (members-single a h)
 
 pub places-size : (base stride m : ℕ) → length (places base stride m) ≡ size m
 unfolding places size

@@ -70,3 +70,16 @@ first-fails n test i e =
     ⊎-elim (λ all. absurd (omega (arith, pass-first n test all)))
     (λ f. let q : f .0 ≡ i = omega (arith, fails-first n test (f .0) (f .1)) in subst (FailsFirst n test) q (f .1))
     (pass-or-fails n test)
+
+-- the first position depends only on the tests at the n positions
+pub first-ext : (n : ℕ) (t u : ℕ → Bool) → ((i : ℕ) → i < n → t i ≡ u i) → firstFailing n t ≡ firstFailing n u
+first-ext n t u e =
+    ⊎-elim (λ all. pass-first n t all ∙ sym (pass-first n u (λ i l. sym (e i l) ∙ all i l)))
+    (λ f. fails-first n t (f .0) (f .1) ∙ sym (fails-first n u (f .0) (moved (f .0) (f .1)))) (pass-or-fails n t)
+  where
+    moved : (i : ℕ) → FailsFirst n t i → FailsFirst n u i
+    moved i f = record {
+      inside = f .inside;
+      before = λ j l. sym (e j (omega (arith, f .inside))) ∙ f .before j l;
+      fails = sym (e i (f .inside)) ∙ f .fails;
+    }

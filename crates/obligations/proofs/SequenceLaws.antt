@@ -15,7 +15,7 @@ use Rattle.obligations.proofs.BoolLaws.{and-left, and-right, and-both, 
 use Rattle.obligations.proofs.StateLaws.{after-state, nothing-state}
 use Rattle.obligations.specs.Statements.{InputsAreMasks, EachPossible, ImpossibleAfter}
 use Rattle.obligations.proofs.CountLaws.{possible-count, count-possible, zero-count, count-zero}
-use Rattle.obligations.proofs.PositionLaws.{pass-first, first-pass, fails-first, first-fails}
+use Rattle.obligations.proofs.PositionLaws.{AllPass, FailsFirst, pass-first, first-pass, fails-first, first-fails}
 
 -- ---- words
 
@@ -94,6 +94,14 @@ pub possible-at : (s : List Binding) (i : ℕ) → at s i .input < 2 ^ 32 → (p
 unfolding possibleAt
 possible-at s i h =
     (possible-count (ψ (take i s)) (at s i .activity) (at s i .input) h, count-possible (ψ (take i s)) (at s i .activity) (at s i .input))
+
+pub pass-impossible : (s : List Binding) → AllPass (length s) (possibleAt s) → firstImpossible s ≡ 0
+unfolding firstImpossible
+pass-impossible s all = pass-first (length s) (possibleAt s) all
+
+pub fails-impossible : (s : List Binding) (i : ℕ) → FailsFirst (length s) (possibleAt s) i → firstImpossible s ≡ suc i
+unfolding firstImpossible
+fails-impossible s i f = fails-first (length s) (possibleAt s) i f
 
 pub none-impossible : (s : List Binding) → InputsAreMasks s → (firstImpossible s ≡ 0) ↔ EachPossible s
 unfolding firstImpossible

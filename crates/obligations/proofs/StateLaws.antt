@@ -13,10 +13,11 @@ use lib.Bits.{bitOr, or-add-and, and-le-l, and-le-r}
 use lib.Dec.{eqb, lit<}
 use lib.ListN.{length, getD, drop, replicate, getD-replicate, List·getD-eq-default}
 use lib.Seq.{ext-getD}
-use Rattle.obligations.specs.State.{nothing, inputs, outputs, possible, taken, added, after, stepped, covers, unadded, untaken, before, allZero, State}
+use Rattle.obligations.specs.Sets.{single}
+use Rattle.obligations.specs.State.{nothing, inputs, outputs, allDue, lowered, raised, possible, taken, added, after, stepped, covers, unadded, untaken, before, allZero, State}
 use Rattle.obligations.proofs.BoolLaws.{and-left, and-right, and-both, same-test}
 use Rattle.obligations.proofs.SetLaws.{lt-or-le}
-use Rattle.obligations.proofs.PlaceLaws.{occ, lowered-at, raised-at, length-lowered, length-raised, places-once, places-found, due-at, due-all}
+use Rattle.obligations.proofs.PlaceLaws.{places-none, places-single, occ, lowered-at, raised-at, length-lowered, length-raised, places-once, places-found, due-at, due-all}
 
 -- ---- lengths
 
@@ -115,6 +116,33 @@ added-covers d a y l h = due-all (added d a y) (outputs a y) (λ j o. omega (ari
 pub after-covers : (d : List ℕ) (a x y : ℕ) → length d ≡ 1024 → a < 32 → covers (after d a x y) a y ≡ true
 unfolding after
 after-covers d a x y l h = added-covers (taken d a x) a y (length-taken d a x ∙ l) h
+
+-- ---- no input, no output, and one obligation handed on
+
+pub possible-none : (d : List ℕ) (a : ℕ) → possible d a 0 ≡ true
+unfolding possible inputs allDue
+possible-none d a = ap (allDue d) (places-none (a * 32) 1)
+
+pub taken-none : (d : List ℕ) (a : ℕ) → taken d a 0 ≡ d
+unfolding taken inputs lowered
+taken-none d a = ap (lowered d) (places-none (a * 32) 1)
+
+pub added-none : (d : List ℕ) (a : ℕ) → added d a 0 ≡ d
+unfolding added outputs raised
+added-none d a = ap (raised d) (places-none a 32)
+
+-- what a adds for b alone is what b takes from a alone
+same-place : (a b : ℕ) → a < 32 → b < 32 → inputs b (single a) ≡ outputs a (single b)
+unfolding inputs outputs
+same-place a b ha hb = places-single (b * 32) 1 a ha ∙ ap (λ (k : ℕ). k ∷ []) (omega arith) ∙ sym (places-single a 32 b hb)
+
+pub handed-possible : (d : List ℕ) (a b : ℕ) → length d ≡ 1024 → a < 32 → b < 32 → possible (added d a (single b)) b (single a) ≡ true
+unfolding possible covers
+handed-possible d a b l ha hb = ap (allDue (added d a (single b))) (same-place a b ha hb) ∙ added-covers d a (single b) l ha
+
+pub handed-taken : (d : List ℕ) (a b : ℕ) → a < 32 → b < 32 → taken (added d a (single b)) b (single a) ≡ d
+unfolding taken unadded
+handed-taken d a b ha hb = ap (lowered (added d a (single b))) (same-place a b ha hb) ∙ unadded-added d a (single b)
 
 -- ---- how far counts can grow
 

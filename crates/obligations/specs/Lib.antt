@@ -3,5 +3,6 @@ pub mod Limits
 pub mod Tests
 pub mod Sets
 pub mod State
+pub mod Trace
 pub mod Sequence
 pub mod Statements

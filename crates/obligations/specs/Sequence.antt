@@ -8,6 +8,7 @@ use lib.ListN.{getD, take, length}
 use Rattle.obligations.specs.Limits.{activities}
 use Rattle.obligations.specs.Tests.{firstFailing}
 use Rattle.obligations.specs.Sets.{member}
+use Rattle.obligations.specs.Trace.{Shaped}
 use Rattle.obligations.specs.State.{count, nothing, possible, after, allZero}
 
 -- a binding (a, X, Y)
@@ -47,10 +48,8 @@ Possible d b = (p : ℕ) → member (b .input) p ≡ true → 1 ≤ count d p (b
 
 -- well-formed for a start and an end. i is the number of positions before the one spoken of.
 pub record WellFormed (start end : ℕ) (s : List Binding) : Type 0 where
-  pub two : 2 ≤ length s
   pub activities-only : (i : ℕ) → i < length s → at s i .activity < activities
-  pub start-first-only : (i : ℕ) → i < length s → (at s i .activity ≡ start) ↔ (i ≡ 0)
-  pub end-last-only : (i : ℕ) → i < length s → (at s i .activity ≡ end) ↔ (i + 1 ≡ length s)
+  pub shape : Shaped start end (length s) (λ i. at s i .activity)
   pub input-empty-first-only : (i : ℕ) → i < length s → (at s i .input ≡ 0) ↔ (i ≡ 0)
   pub output-empty-last-only : (i : ℕ) → i < length s → (at s i .output ≡ 0) ↔ (i + 1 ≡ length s)
   pub each-possible : (i : ℕ) → i < length s → Possible (ψ (take i s)) (at s i)

@@ -11,6 +11,7 @@ use Rattle.obligations.specs.Limits.{activities, masks, pairs}
 use Rattle.obligations.specs.Tests.{indicator, number}
 use Rattle.obligations.specs.Sets.{member, members, size}
 use Rattle.obligations.specs.State.{count, nothing, possible, after, before, allZero, total, State}
+use Rattle.obligations.specs.Trace.{shaped, Shaped}
 use Rattle.obligations.specs.Sequence.{Binding, bindings, words, at, ψ, Possible, firstImpossible, completes}
 
 -- 000, Definition 3: ψ after a binding, at each pair (p, q)
@@ -74,6 +75,10 @@ CompletesIsBoth = (s : List Binding) → InputsAreMasks s → (completes nothing
 -- a count never exceeds the number of positions so far
 abbrev pub CountsStaySmall : Type 0
 CountsStaySmall = (s : List Binding) → State (length s) (ψ s)
+
+-- start and end are first, last and nowhere else: the test agrees with the facts
+abbrev pub ShapedIsFacts : Type 0
+ShapedIsFacts = (start end n : ℕ) (activityAt : ℕ → ℕ) → (shaped start end n activityAt ≡ true) ↔ Shaped start end n activityAt
 
 -- a sequence read from its words is the sequence, and back where the words are a multiple of three
 abbrev pub WordsAndBack : Type 0

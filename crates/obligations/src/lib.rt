@@ -4,6 +4,7 @@
 
 pub mod sets;
 pub mod state;
+pub mod trace;
 
 // Activities are the numbers below this.
 pub const ACTIVITIES: u32 = 32;
