@@ -1,0 +1,161 @@
+-- Laws of a put on one side, in the arrays: what an accepted one leaves on each side, that every side stays as it has
+-- to be, and by how much the lengths grow. Each is by cases on the answer. Assumes nothing.
+use Prim.Native.Nat.{ℕ, zero, suc, _+_, _<_, _≤_}
+use native.Mathlib.Nat.{not-suc-le-zero}
+use native.Mathlib.Decide.{ℕ-discrete as decEq, decLt}
+use native.Mathlib.Omega.{arith}
+use mathlib.Core.Path.{_≡_, refl, sym, _∙_}
+use mathlib.Core.Bool.{Bool, true, false, cond, _&&_, _||_, or-false, or-comm}
+use mathlib.Core.Logic.{_⊎_, inl, inr, ⊎-elim, _↔_}
+use mathlib.Core.List.{List, [], _∷_}
+use lib.Dec.{eqb}
+use lib.ListN.{length, getD, set, List·getD-eq-default}
+use borrow.Author.Tests.{eqb-true, eqb-false, not-false, eq-eqb, ne-eqb}
+use Rattle.obligations.specs.Limits.{activities}
+use Rattle.obligations.specs.State.{total}
+use Rattle.obligations.proofs.BoolLaws.{true-or-false, false-not-true, and-left, and-right}
+use Rattle.net.specs.Limits.{sets}
+use Rattle.net.specs.Refusals.{Says, accepted, refused, misplaced-set, full-side}
+use Rattle.net.specs.Lists.{listed}
+use Rattle.net.specs.Sides.{sideIn}
+use Rattle.net.specs.Put.{misplaced, sideSays, grows, grownMasks, grownLengths, putMasks, putLengths}
+use Rattle.net.proofs.ListLaws.{or-cases, or-right, one-listed}
+use Rattle.net.proofs.InsertLaws.{listed-insert}
+use Rattle.net.proofs.SideLaws.{OrderlySides, side-at-most, side-just-empty}
+use Rattle.net.proofs.GrownLaws.{grown-side-same, grown-side-other, grown-orderly-sides}
+
+-- ---- the answers
+
+-- what is said, by the three tests: misplaced, there already, full
+abbrev chain : Bool → Bool → Bool → Says
+chain q r s = cond q (refused misplaced-set 0) (cond r (accepted 0) (cond s (refused full-side 0) (accepted 1)))
+
+chain-accepted : (q r s : Bool) → chain q r s .ok ≡ true → (r ≡ true) ⊎ (grows (chain q r s) ≡ true)
+unfolding grows
+chain-accepted true r s e = absurd (false-not-true refl e)
+chain-accepted false true s e = inl refl
+chain-accepted false false true e = absurd (false-not-true refl e)
+chain-accepted false false false e = inr refl
+
+chain-grows : (q r s : Bool) → grows (chain q r s) ≡ true → (q ≡ false) × (r ≡ false) × (s ≡ false)
+unfolding grows
+chain-grows true r s e = absurd (false-not-true refl e)
+chain-grows false true s e = absurd (false-not-true refl e)
+chain-grows false false true e = absurd (false-not-true refl e)
+chain-grows false false false e = (refl, refl, refl)
+
+chain-total : (q r s : Bool) (l grown : List ℕ) → total grown ≡ total l + 1 → total (cond (grows (chain q r s)) grown l) ≡ total l + chain q r s .value
+unfolding grows
+chain-total true r s l grown e = omega arith
+chain-total false true s l grown e = omega arith
+chain-total false false true l grown e = omega arith
+chain-total false false false l grown e = e
+
+-- a set that is new and not misplaced isn't empty, and its side isn't the one that holds just the empty set
+new-plain : (empty a m : ℕ) (l : List ℕ) → misplaced empty a m ≡ false → listed m l ≡ false → (a ≡ empty → l ≡ 0 ∷ []) → (a ≡ empty → ⊥) × (0 < m)
+unfolding misplaced
+new-plain empty a m l p n j = elim (decEq m 0) [
+  | yes e ↦
+      let q : eqb a empty ≡ true = not-false (eqb a empty) (rw (eq-eqb m 0 e) at p) in
+      absurd (false-not-true n (rw (j (eqb-true a empty q), e) (one-listed 0)))
+  | no e ↦ (eqb-false a empty (rw (ne-eqb m 0 e) at p), omega arith)
+]
+
+module _ (masks lengths : List ℕ) (empty a m : ℕ) where
+  pub put-side-grown : grows (sideSays masks lengths empty a m) ≡ true → (putMasks masks lengths empty a m ≡ grownMasks masks lengths a m) × (putLengths masks lengths empty a m ≡ grownLengths lengths a)
+  unfolding putMasks putLengths
+  put-side-grown g = (rw g, rw g)
+
+  pub put-side-kept : grows (sideSays masks lengths empty a m) ≡ false → (putMasks masks lengths empty a m ≡ masks) × (putLengths masks lengths empty a m ≡ lengths)
+  unfolding putMasks putLengths
+  put-side-kept g = (rw g, rw g)
+
+  pub refused-kept : sideSays masks lengths empty a m .ok ≡ false → grows (sideSays masks lengths empty a m) ≡ false
+  unfolding grows
+  refused-kept d = rw d
+
+  -- an accepted set was there already, or is new
+  pub accepted-cases : sideSays masks lengths empty a m .ok ≡ true → (listed m (sideIn masks lengths a) ≡ true) ⊎ (grows (sideSays masks lengths empty a m) ≡ true)
+  unfolding sideSays
+  accepted-cases e = chain-accepted (misplaced empty a m) (listed m (sideIn masks lengths a)) (eqb (getD lengths a 0) sets) e
+
+  pub grows-new : grows (sideSays masks lengths empty a m) ≡ true → (misplaced empty a m ≡ false) × (listed m (sideIn masks lengths a) ≡ false) × (getD lengths a 0 ≡ sets → ⊥)
+  unfolding sideSays
+  grows-new e = let f = chain-grows (misplaced empty a m) (listed m (sideIn masks lengths a)) (eqb (getD lengths a 0) sets) e in (f .0, f .1, eqb-false (getD lengths a 0) sets (f .2))
+
+-- ---- the lengths
+
+total-more : (l : List ℕ) (i : ℕ) → i < length l → total (set l i (getD l i 0 + 1)) ≡ total l + 1
+unfolding total
+total-more [] i h = absurd (not-suc-le-zero h)
+total-more (x ∷ xs) zero h = omega arith
+total-more (x ∷ xs) (suc i) h = omega (arith, total-more xs i (omega arith))
+
+-- the value said is the growth of the lengths
+pub put-side-total : (masks lengths : List ℕ) (empty a m : ℕ) → a < length lengths → total (putLengths masks lengths empty a m) ≡ total lengths + sideSays masks lengths empty a m .value
+unfolding putLengths sideSays
+put-side-total masks lengths empty a m h =
+    chain-total (misplaced empty a m) (listed m (sideIn masks lengths a)) (eqb (getD lengths a 0) sets) lengths (grownLengths lengths a) (total-more lengths a h)
+
+-- ---- the sides
+
+module _ (masks lengths : List ℕ) (empty a m : ℕ) (o : OrderlySides masks lengths empty) (h : a < activities) where
+  has-room : grows (sideSays masks lengths empty a m) ≡ true → getD lengths a 0 < sets
+  has-room g = let d = grows-new masks lengths empty a m g .2 in omega (arith, side-at-most masks lengths empty o a h)
+
+  pub put-side-orderly : OrderlySides (putMasks masks lengths empty a m) (putLengths masks lengths empty a m) empty
+  unfolding putMasks putLengths
+  put-side-orderly = ⊎-elim (λ g. rw g (grown g)) (λ g. rw g o) (true-or-false (grows (sideSays masks lengths empty a m)))
+    where
+      grown : grows (sideSays masks lengths empty a m) ≡ true → OrderlySides (grownMasks masks lengths a m) (grownLengths lengths a) empty
+      grown g =
+          let f = grows-new masks lengths empty a m g in
+          let p = new-plain empty a m (sideIn masks lengths a) (f .0) (f .1) (side-just-empty masks lengths empty o a h) in
+          grown-orderly-sides masks lengths a m (o .masks-long) h (has-room g) empty o (p .0) (p .1) (f .1)
+
+  all-at-most : (b : ℕ) → getD lengths b 0 ≤ sets
+  all-at-most b = elim (decLt b activities) [
+    | yes l ↦ side-at-most masks lengths empty o b l
+    | no l ↦ rw (List·getD-eq-default lengths 0 {n = b} (omega (arith, o .lengths-long))) (omega arith)
+  ]
+
+  put-side-listed : sideSays masks lengths empty a m .ok ≡ true → (b x : ℕ)
+      → listed x (sideIn (putMasks masks lengths empty a m) (putLengths masks lengths empty a m) b) ≡ (listed x (sideIn masks lengths b) || (eqb b a && eqb m x))
+  unfolding putMasks putLengths
+  put-side-listed ok b x = ⊎-elim (λ g. rw g (grown g)) (λ g. rw g (kept g)) (true-or-false (grows (sideSays masks lengths empty a m)))
+    where
+      grown : grows (sideSays masks lengths empty a m) ≡ true
+          → listed x (sideIn (grownMasks masks lengths a m) (grownLengths lengths a) b) ≡ (listed x (sideIn masks lengths b) || (eqb b a && eqb m x))
+      grown g = elim (decEq b a) [
+        | yes e ↦
+            rw (e, grown-side-same masks lengths a m (o .masks-long) h (has-room g) (omega (arith, o .lengths-long)), listed-insert x m (sideIn masks lengths a), eq-eqb a a refl)
+            (or-comm (eqb m x) (listed x (sideIn masks lengths a)))
+        | no d ↦ rw (grown-side-other masks lengths a m (o .masks-long) h (has-room g) b d (all-at-most b), ne-eqb b a d) (sym (or-false _))
+      ]
+
+      absorb : (p q : Bool) → (q ≡ true → p ≡ true) → p ≡ (p || q)
+      absorb true q e = refl
+      absorb false true e = e refl
+      absorb false false e = refl
+
+      there : grows (sideSays masks lengths empty a m) ≡ false → listed m (sideIn masks lengths a) ≡ true
+      there g = ⊎-elim (λ e. e) (λ e. absurd (false-not-true g e)) (accepted-cases masks lengths empty a m ok)
+
+      kept : grows (sideSays masks lengths empty a m) ≡ false → listed x (sideIn masks lengths b) ≡ (listed x (sideIn masks lengths b) || (eqb b a && eqb m x))
+      kept g =
+          absorb (listed x (sideIn masks lengths b)) (eqb b a && eqb m x)
+          (λ e. rw (eqb-true b a (and-left (eqb b a) (eqb m x) e), sym (eqb-true m x (and-right (eqb b a) (eqb m x) e))) (there g))
+
+  -- after an accepted put each side holds what it held, and a's side m too
+  pub put-side-holds : sideSays masks lengths empty a m .ok ≡ true → (b x : ℕ)
+      → (listed x (sideIn (putMasks masks lengths empty a m) (putLengths masks lengths empty a m) b) ≡ true) ↔ ((listed x (sideIn masks lengths b) ≡ true) ⊎ ((b ≡ a) × (x ≡ m)))
+  put-side-holds ok b x = (
+    (λ e. ⊎-elim (λ t. inl t) (λ t. inr (apart t)) (or-cases (listed x (sideIn masks lengths b)) (eqb b a && eqb m x) (sym (put-side-listed ok b x) ∙ e))),
+    (λ w. put-side-listed ok b x ∙ ⊎-elim (λ t. rw t) (λ t. or-right (listed x (sideIn masks lengths b)) (eqb b a && eqb m x) (together t)) w),
+  )
+    where
+      apart : (eqb b a && eqb m x) ≡ true → (b ≡ a) × (x ≡ m)
+      apart t = (eqb-true b a (and-left (eqb b a) (eqb m x) t), sym (eqb-true m x (and-right (eqb b a) (eqb m x) t)))
+
+      together : (b ≡ a) × (x ≡ m) → (eqb b a && eqb m x) ≡ true
+      together t = rw (eq-eqb b a (t .0), eq-eqb m x (sym (t .1)))

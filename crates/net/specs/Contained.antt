@@ -1,0 +1,40 @@
+-- Containment (01, "Learning and containment"): as a test that computes, and as facts in the paper's words.
+use Prim.Native.Nat.{ℕ, _<_}
+use mathlib.Core.Path.{_≡_}
+use mathlib.Core.Bool.{Bool, cond, _&&_}
+use mathlib.Core.List.{List}
+use lib.Dec.{eqb}
+use Rattle.obligations.specs.Limits.{activities}
+use Rattle.net.specs.Refusals.{Says, accepted, refused, disorderly}
+use Rattle.net.specs.Lists.{allBelow, allListed}
+use Rattle.net.specs.Sides.{sideIn, OnSide}
+use Rattle.net.specs.Orderly.{orderly}
+use Rattle.net.specs.declared.Net.{Net}
+use Rattle.net.specs.declared.Side.{Side}
+use Rattle.net.specs.declared.ContainedAnswer.{ContainedAnswer}
+use Rattle.net.specs.declared.ContainedAnswer.the-variants.{Yes, No, Refused}
+
+-- what each answer says: yes is 1 and no is 0
+abbrev pub containedSaid : ContainedAnswer → Says
+containedSaid Yes = accepted 1
+containedSaid No = accepted 0
+containedSaid (Refused n p) = refused n p
+
+-- each side of one kind has its sets among the other net's
+unfoldable pub sidesWithin : List ℕ → List ℕ → List ℕ → List ℕ → Bool
+sidesWithin masks lengths masks′ lengths′ = allBelow activities (λ a. allListed (sideIn masks lengths a) (sideIn masks′ lengths′ a))
+
+unfoldable pub contained : Net → Net → Bool
+contained net other =
+    eqb (net .start) (other .start)
+    && (eqb (net .end) (other .end)
+    && (sidesWithin (net .inputs) (net .«input_len») (other .inputs) (other .«input_len») && sidesWithin (net .outputs) (net .«output_len») (other .outputs) (other .«output_len»)))
+
+unfoldable pub containedSays : Net → Net → Says
+containedSays net other = cond (orderly net) (cond (orderly other) (cond (contained net other) (accepted 1) (accepted 0)) (refused disorderly 2)) (refused disorderly 1)
+
+-- a net is contained in another: start and end agree and each side's sets are among the other's
+pub record Contained (net other : Net) : Type 0 where
+  pub same-start : net .start ≡ other .start
+  pub same-end : net .end ≡ other .end
+  pub among : (side : Side) (a m : ℕ) → a < activities → OnSide net side a m → OnSide other side a m

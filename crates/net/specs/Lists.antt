@@ -1,0 +1,44 @@
+-- Lists of masks: tests that compute, and insertion into an ascending list.
+use Prim.Native.Nat.{ℕ, zero, suc, min, max}
+use mathlib.Core.Bool.{Bool, true, false, _&&_, _||_}
+use mathlib.Core.List.{List, [], _∷_, _++_}
+use lib.Dec.{ltb, eqb}
+use lib.ListN.{length, take, drop, replicate}
+
+-- the test passes for each number below n
+unfoldable pub allBelow : ℕ → (ℕ → Bool) → Bool
+allBelow zero test = true
+allBelow (suc n) test = allBelow n test && test n
+
+-- m is one of the list's elements
+unfoldable pub listed : ℕ → List ℕ → Bool
+listed m [] = false
+listed m (x ∷ xs) = eqb x m || listed m xs
+
+-- each element of the first list is one of the second's
+unfoldable pub allListed : List ℕ → List ℕ → Bool
+allListed [] ys = true
+allListed (x ∷ xs) ys = listed x ys && allListed xs ys
+
+-- the list strictly ascends, and its first element is above p
+unfoldable pub ascendsAbove : ℕ → List ℕ → Bool
+ascendsAbove p [] = true
+ascendsAbove p (x ∷ xs) = ltb p x && ascendsAbove x xs
+
+-- each element is zero
+unfoldable pub zeros : List ℕ → Bool
+zeros [] = true
+zeros (x ∷ xs) = eqb x 0 && zeros xs
+
+-- an ascending list with m, which is none of its elements, in its place
+unfoldable pub insert : ℕ → List ℕ → List ℕ
+insert m [] = m ∷ []
+insert m (x ∷ xs) = min m x ∷ insert (max m x) xs
+
+-- n zeros
+abbrev pub blank : ℕ → List ℕ
+blank n = replicate n 0
+
+-- the list with v written over it from place i on
+abbrev pub splice : List ℕ → ℕ → List ℕ → List ℕ
+splice l i v = take i l ++ (v ++ drop (length v) (drop i l))

@@ -1,0 +1,60 @@
+-- An orderly net record (01, "The net and its sets"): as a test that computes, and as facts in the paper's words.
+use Prim.Native.Nat.{ℕ, _+_, _*_, _<_, _≤_}
+use mathlib.Core.Path.{_≡_}
+use mathlib.Core.Bool.{Bool, false, cond, not, _&&_}
+use mathlib.Core.List.{List, [], _∷_}
+use lib.Dec.{leb, ltb, eqb}
+use lib.ListN.{length, getD, take, drop}
+use Rattle.obligations.specs.Limits.{activities}
+use Rattle.net.specs.Limits.{sets, places}
+use Rattle.net.specs.Lists.{allBelow, listed, ascendsAbove, zeros}
+use Rattle.net.specs.Sides.{masksOf, lengthsOf, emptyAt, block, setsOn}
+use Rattle.net.specs.declared.Net.{Net}
+use Rattle.net.specs.declared.Side.{Side}
+
+-- ---- the test
+
+-- start and end are activities and differ
+unfoldable pub endsOk : ℕ → ℕ → Bool
+endsOk start end = ltb start activities && (ltb end activities && not (eqb start end))
+
+-- 16 places hold n sets in strictly ascending order, none of them empty, and are zero past those
+abbrev pub plainBlock : List ℕ → ℕ → Bool
+plainBlock b n = leb n sets && (ascendsAbove 0 (take n b) && zeros (drop n b))
+
+-- 16 places hold just the empty set, and are zero past it
+abbrev pub emptyBlock : List ℕ → ℕ → Bool
+emptyBlock b n = eqb n 1 && zeros b
+
+-- the 16 places of a side with n sets are as they have to be; only: the side has to hold just the empty set
+unfoldable pub blockOk : List ℕ → ℕ → Bool → Bool
+blockOk b n only = cond only (emptyBlock b n) (plainBlock b n)
+
+-- every side of one kind is as it has to be, where the side of `empty` has to hold just the empty set
+unfoldable pub sidesOk : List ℕ → List ℕ → ℕ → Bool
+sidesOk masks lengths empty = allBelow activities (λ a. blockOk (block masks a) (getD lengths a 0) (eqb a empty))
+
+-- the lists are as long as the record's arrays, which holds of every record in a program
+unfoldable pub sized : Net → Bool
+sized net = eqb (length (net .inputs)) places && (eqb (length (net .outputs)) places && (eqb (length (net .«input_len»)) activities && eqb (length (net .«output_len»)) activities))
+
+unfoldable pub orderly : Net → Bool
+orderly net = sized net && (endsOk (net .start) (net .end) && (sidesOk (net .inputs) (net .«input_len») (net .start) && sidesOk (net .outputs) (net .«output_len») (net .end)))
+
+-- ---- the facts
+
+-- activity a's side of a net
+pub record SideOrderly (net : Net) (side : Side) (a : ℕ) : Type 0 where
+  pub at-most : getD (lengthsOf net side) a 0 ≤ sets
+  pub ascending : (i : ℕ) → i + 1 < getD (lengthsOf net side) a 0 → getD (setsOn net side a) i 0 < getD (setsOn net side a) (i + 1) 0
+  pub just-empty : a ≡ emptyAt net side → setsOn net side a ≡ 0 ∷ []
+  pub never-empty : (a ≡ emptyAt net side → ⊥) → listed 0 (setsOn net side a) ≡ false
+  pub unused-zero : (i : ℕ) → getD (lengthsOf net side) a 0 ≤ i → i < sets → getD (masksOf net side) (sets * a + i) 0 ≡ 0
+
+pub record Orderly (net : Net) : Type 0 where
+  pub masks-long : (side : Side) → length (masksOf net side) ≡ places
+  pub lengths-long : (side : Side) → length (lengthsOf net side) ≡ activities
+  pub start-activity : net .start < activities
+  pub end-activity : net .end < activities
+  pub differ : net .start ≡ net .end → ⊥
+  pub sides : (side : Side) (a : ℕ) → a < activities → SideOrderly net side a

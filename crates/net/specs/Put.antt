@@ -1,0 +1,82 @@
+-- Put: one set added to one side (01, "The net and its sets").
+use Prim.Native.Nat.{ℕ, _*_, _+_}
+use mathlib.Core.Path.{_≡_}
+use mathlib.Core.Bool.{Bool, cond, not, _&&_}
+use mathlib.Core.List.{List}
+use lib.Dec.{eqb, ltb}
+use lib.ListN.{getD, set}
+use Rattle.obligations.specs.Limits.{activities}
+use Rattle.net.specs.Limits.{sets}
+use Rattle.net.specs.Refusals.{Says, accepted, refused, disorderly, no-activity, misplaced-set, full-side}
+use Rattle.net.specs.Lists.{listed, insert, splice}
+use Rattle.net.specs.Sides.{masksOf, lengthsOf, emptyAt, sideIn}
+use Rattle.net.specs.Orderly.{orderly}
+use Rattle.net.specs.declared.Net.{Net}
+use Rattle.net.specs.declared.Side.{Side}
+use Rattle.net.specs.declared.Side.the-variants.{Input, Output}
+use Rattle.net.specs.declared.PutAnswer.{PutAnswer}
+use Rattle.net.specs.declared.PutAnswer.the-variants.{New, Present, Refused}
+use Rattle.net.specs.declared.PutResult.{PutResult}
+
+-- what each answer says: an accepted put's value is the number of new sets
+abbrev pub putSaid : PutAnswer → Says
+putSaid New = accepted 1
+putSaid Present = accepted 0
+putSaid (Refused n p) = refused n p
+
+-- the empty set on a side that may not hold it, or another on a side that must hold only it
+unfoldable pub misplaced : ℕ → ℕ → ℕ → Bool
+misplaced empty a m = cond (eqb m 0) (not (eqb a empty)) (eqb a empty)
+
+-- what is said of a set m for activity a's side, in arrays of masks and lengths
+unfoldable pub sideSays : List ℕ → List ℕ → ℕ → ℕ → ℕ → Says
+sideSays masks lengths empty a m =
+    cond (misplaced empty a m)
+    (refused misplaced-set 0)
+    (cond (listed m (sideIn masks lengths a)) (accepted 0) (cond (eqb (getD lengths a 0) sets) (refused full-side 0) (accepted 1)))
+
+unfoldable pub putSays : Net → Side → ℕ → ℕ → Says
+putSays net side a m =
+    cond (orderly net)
+    (cond (ltb a activities) (sideSays (masksOf net side) (lengthsOf net side) (emptyAt net side) a m) (refused no-activity 0))
+    (refused disorderly 0)
+
+-- the call was accepted and its set is new
+unfoldable pub grows : Says → Bool
+grows s = s .ok && eqb (s .value) 1
+
+-- the arrays with m added to activity a's side
+abbrev pub grownMasks : List ℕ → List ℕ → ℕ → ℕ → List ℕ
+grownMasks masks lengths a m = splice masks (sets * a) (insert m (sideIn masks lengths a))
+
+abbrev pub grownLengths : List ℕ → ℕ → List ℕ
+grownLengths lengths a = set lengths a (getD lengths a 0 + 1)
+
+-- the net with other arrays for one kind of side
+abbrev pub withSides : Net → Side → List ℕ → List ℕ → Net
+withSides net Input masks lengths = record { start = net .start; end = net .end; inputs = masks; outputs = net .outputs; «input_len» = lengths; «output_len» = net .«output_len» }
+withSides net Output masks lengths = record { start = net .start; end = net .end; inputs = net .inputs; outputs = masks; «input_len» = net .«input_len»; «output_len» = lengths }
+
+-- the net with m added to activity a's side
+abbrev pub withSet : Net → Side → ℕ → ℕ → Net
+withSet net side a m = withSides net side (grownMasks (masksOf net side) (lengthsOf net side) a m) (grownLengths (lengthsOf net side) a)
+
+-- the arrays after m was put on activity a's side
+unfoldable pub putMasks : List ℕ → List ℕ → ℕ → ℕ → ℕ → List ℕ
+putMasks masks lengths empty a m = cond (grows (sideSays masks lengths empty a m)) (grownMasks masks lengths a m) masks
+
+unfoldable pub putLengths : List ℕ → List ℕ → ℕ → ℕ → ℕ → List ℕ
+putLengths masks lengths empty a m = cond (grows (sideSays masks lengths empty a m)) (grownLengths lengths a) lengths
+
+-- what a put on activity a's side leaves: its answer and the two arrays
+pub record SideDone (masks lengths : List ℕ) (empty a m : ℕ) (r : PutAnswer) (masks′ lengths′ : List ℕ) : Type 0 where
+  pub says : putSaid r ≡ sideSays masks lengths empty a m
+  pub masks-are : masks′ ≡ putMasks masks lengths empty a m
+  pub lengths-are : lengths′ ≡ putLengths masks lengths empty a m
+
+unfoldable pub putGives : Net → Side → ℕ → ℕ → Net
+putGives net side a m = cond (grows (putSays net side a m)) (withSet net side a m) net
+
+pub record PutDone (net : Net) (side : Side) (a m : ℕ) (r : PutResult) : Type 0 where
+  pub says : putSaid (r .answer) ≡ putSays net side a m
+  pub gives : r .net ≡ putGives net side a m

@@ -1,0 +1,63 @@
+// The causal net (paper 01, "The net and its sets", "Learning and containment"): the record, and the calls fresh, put and
+// contained. Each call takes every record and refuses what the paper refuses.
+
+pub mod containment;
+mod lists;
+pub mod making;
+pub mod orderly;
+pub mod putting;
+pub mod refusal;
+
+pub use containment::contained;
+pub use making::fresh;
+pub use orderly::is_orderly;
+pub use putting::put;
+
+// A side holds at most this many sets.
+pub const SETS: u32 = 16;
+
+// A net: for each activity a an input side and an output side. The sets of a's input side are the first input_len[a]
+// places of inputs from 16 * a on, and those of its output side likewise.
+pub struct Net {
+    pub start: u32,
+    pub end: u32,
+    pub inputs: [u32; 512],
+    pub outputs: [u32; 512],
+    pub input_len: [u32; 32],
+    pub output_len: [u32; 32],
+}
+
+// The two sides of an activity.
+pub enum Side {
+    Input,
+    Output,
+}
+
+// Refused: the refusal's number and the place that is returned with it, in every answer.
+pub enum FreshAnswer {
+    Made,
+    Refused { number: u32, place: u32 },
+}
+
+pub struct FreshResult {
+    pub answer: FreshAnswer,
+    pub net: Net,
+}
+
+// New: the set was not on the side yet. Present: it was.
+pub enum PutAnswer {
+    New,
+    Present,
+    Refused { number: u32, place: u32 },
+}
+
+pub struct PutResult {
+    pub answer: PutAnswer,
+    pub net: Net,
+}
+
+pub enum ContainedAnswer {
+    Yes,
+    No,
+    Refused { number: u32, place: u32 },
+}

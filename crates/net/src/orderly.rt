@@ -1,0 +1,78 @@
+// The test of an orderly net record (paper 01, "The net and its sets").
+
+use crate::Net;
+use crate::SETS;
+use crate::lists;
+use obligations::ACTIVITIES;
+ghost use mathlib.Core.Path.{_≡_};
+ghost use lib.ListN.{length};
+ghost use Rattle.obligations.specs.Limits.{activities};
+ghost use Rattle.net.specs.Limits.{sets, places};
+ghost use Rattle.net.specs.Orderly.{blockOk, sidesOk, endsOk, orderly};
+
+// Whether a net record is orderly.
+pub fn is_orderly(net: Net) -> bool
+    ensures { λ r. ⌜ r ≡ orderly net ⌝ }
+{
+    let start = net.start;
+    let end = net.end;
+    if !ends_ok(start, end) {
+        return false;
+    }
+    if !sides_ok(&net.inputs, &net.input_len, start) {
+        return false;
+    }
+    sides_ok(&net.outputs, &net.output_len, end)
+}
+
+// Whether start and end are activities and differ.
+pub fn ends_ok(start: u32, end: u32) -> bool
+    ensures { λ r. ⌜ r ≡ endsOk start end ⌝ }
+{
+    if start >= ACTIVITIES {
+        return false;
+    }
+    if end >= ACTIVITIES {
+        return false;
+    }
+    start != end
+}
+
+// Whether every side of one kind is as it has to be, where the side of `empty` has to hold just the empty set.
+fn sides_ok<'a>(masks: &'a [u32], lengths: &'a [u32], empty: u32) -> bool
+    requires { ⌜ (length (now masks) ≡ places) × (length (now lengths) ≡ activities) ⌝ }
+    ensures { λ r. ⌜ r ≡ sidesOk (now (masks .entry)) (now (lengths .entry)) empty ⌝ }
+{
+    let mut a: u32 = 0;
+    while a < ACTIVITIES {
+        let from = (SETS * a) as usize;
+        let to = from + SETS as usize;
+        let n = lengths[a as usize];
+        if !block_ok(&masks[from..to], n, a == empty) {
+            return false;
+        }
+        a += 1;
+    }
+    true
+}
+
+// Whether the 16 places of a side with n sets are as they have to be; only: the side has to hold just the empty set.
+fn block_ok(block: &[u32], n: u32, only: bool) -> bool
+    requires { ⌜ length (now block) ≡ sets ⌝ }
+    ensures { λ r. ⌜ r ≡ blockOk (now (block .entry)) n only ⌝ }
+{
+    if only {
+        if n != 1 {
+            return false;
+        }
+        return lists::all_zero(block);
+    }
+    if n > SETS {
+        return false;
+    }
+    let used = n as usize;
+    if !lists::ascends(&block[..used]) {
+        return false;
+    }
+    lists::all_zero(&block[used..])
+}

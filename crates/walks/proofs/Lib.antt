@@ -1,0 +1,16 @@
+-- The laws of the definitions in specs/, by concept.
+pub mod BoolLaws
+pub mod SetLaws
+pub mod LowestLaws
+pub mod BelowLaws
+pub mod AlongLaws
+pub mod RowLaws
+pub mod ReachLaws
+pub mod SiftLaws
+pub mod LinkLaws
+pub mod ArcLaws
+pub mod WalkLaws
+pub mod CheckLaws
+pub mod GrowLaws
+pub mod Theorems
+pub mod Examples

@@ -1,0 +1,71 @@
+-- `walk_rows` meets its contract: what its calls give, put together. Assumes nothing.
+use borrow.Author.Needs.{needs}
+use Rattle.walks.proofs.walk_rows.Statement.{statement}
+use Rattle.walks.proofs.walk_rows.Tie as tie
+
+links-requires : tie.Need-links-requires
+links-requires c κs = search needs
+
+links-requires-2 : tie.Need-links-requires-2
+links-requires-2 c κs = search needs
+
+slice-aggregate-reach : tie.Need-slice-aggregate-reach
+slice-aggregate-reach c = search needs
+
+reach-requires : tie.Need-reach-requires
+reach-requires c κs = search needs
+
+slice-aggregate-reach-2 : tie.Need-slice-aggregate-reach-2
+slice-aggregate-reach-2 c = search needs
+
+reach-requires-2 : tie.Need-reach-requires-2
+reach-requires-2 c κs = search needs
+
+minus-requires : tie.Need-minus-requires
+minus-requires c κs = search needs
+
+minus-requires-2 : tie.Need-minus-requires-2
+minus-requires-2 c κs = search needs
+
+union-requires : tie.Need-union-requires
+union-requires c κs = search needs
+
+slice-aggregate-sizes : tie.Need-slice-aggregate-sizes
+slice-aggregate-sizes c = search needs
+
+sizes-requires : tie.Need-sizes-requires
+sizes-requires c κs = search needs
+
+returns : tie.Need-returns
+returns c =
+    let after-union = c .before .before in
+    let after-minus = after-union .before .before in
+    let after-to = after-minus .before in
+    let after-from = after-to .before .before in
+    let after-links2 = after-from .before .before in
+    let u = after-union .union .ensures in
+    let m = after-union .before .minus2 .ensures in
+    let n = after-minus .minus .ensures in
+    let t = after-to .reach2 .ensures in
+    let f = after-from .reach .ensures in
+    let k = after-links2 .links2 .ensures in
+    let l = after-links2 .before .links .ensures in
+    let z = c .sizes .ensures in
+    record { lost-are = cc (u, m, n, t, f, k, l); arcs-are = cc (z, l) }
+
+pub walk-rows-spec : {M : Type 1} → statement M
+walk-rows-spec =
+    tie.close
+    (tie.spec
+    links-requires
+    links-requires-2
+    slice-aggregate-reach
+    reach-requires
+    slice-aggregate-reach-2
+    reach-requires-2
+    minus-requires
+    minus-requires-2
+    union-requires
+    slice-aggregate-sizes
+    sizes-requires
+    returns)

@@ -1,0 +1,58 @@
+-- What the net check says (01, "Net check and judge"; refusals 2 and 6).
+use Prim.Native.Nat.{ℕ}
+use mathlib.Core.Bool.{Bool, cond, not, _&&_, _||_}
+use mathlib.Core.List.{List}
+use lib.Dec.{eqb}
+use lib.ListN.{getD}
+use Rattle.obligations.specs.Limits.{activities}
+use Rattle.obligations.specs.Sets.{member, members}
+use Rattle.net.specs.Refusals.{Says, accepted, refused, disorderly, on-no-walk}
+use Rattle.net.specs.Sides.{lengthsOf}
+use Rattle.net.specs.Orderly.{orderly}
+use Rattle.net.specs.declared.Net.{Net}
+use Rattle.net.specs.declared.Side.{Side}
+use Rattle.net.specs.declared.Side.the-variants.{Input, Output}
+use Rattle.walks.specs.Below.{anyBelow, those}
+use Rattle.walks.specs.Arcs.{names, arc, arcs}
+use Rattle.walks.specs.Rows.{rows, reach}
+use Rattle.walks.specs.declared.CheckAnswer.{CheckAnswer}
+use Rattle.walks.specs.declared.CheckAnswer.the-variants.{Passed, Refused}
+
+-- what each answer says: an accepted check's value is the number of arcs
+abbrev pub checkSaid : CheckAnswer → Says
+checkSaid (Passed n) = accepted n
+checkSaid (Refused n p) = refused n p
+
+-- a has a set on its side, or is named in a set on some activity's
+unfoldable pub onSides : Net → Side → ℕ → Bool
+onSides net side a = not (eqb (getD (lengthsOf net side) a 0) 0) || anyBelow activities (λ b. names net side b a)
+
+-- a is one of the net's activities
+unfoldable pub inNet : Net → ℕ → Bool
+inNet net a = (eqb (net .start) a || eqb (net .end) a) || (onSides net Input a || onSides net Output a)
+
+-- for each activity the set of those one arc on from it, and of those one arc back
+unfoldable pub successors : Net → List ℕ
+successors net = rows (λ p. those (λ q. arc net p q))
+
+unfoldable pub predecessors : Net → List ℕ
+predecessors net = rows (λ q. those (λ p. arc net p q))
+
+-- the net's activities outside one of two sets
+unfoldable pub outside : Net → ℕ → ℕ → ℕ
+outside net from to = those (λ a. inNet net a && not (member from a && member to a))
+
+-- the net's activities that are on no walk from start to end
+unfoldable pub lost : Net → ℕ
+lost net = outside net (reach (successors net) (net .start)) (reach (predecessors net) (net .end))
+
+-- the lowest member of a set
+unfoldable pub lowest : ℕ → ℕ
+lowest m = getD (members m) 0 0
+
+-- what is said of an orderly net with these activities on no walk
+unfoldable pub lostSays : Net → ℕ → Says
+lostSays net m = cond (eqb m 0) (accepted (arcs net)) (refused on-no-walk (lowest m))
+
+unfoldable pub checkSays : Net → Says
+checkSays net = cond (orderly net) (lostSays net (lost net)) (refused disorderly 0)

@@ -1,0 +1,92 @@
+// The net check (paper 01, "Net check and judge"): whether each activity of a net is on a walk along arcs from start to end.
+
+mod arcs;
+mod reach;
+
+use net::Net;
+use net::is_orderly;
+use net::refusal;
+use obligations::sets;
+ghost use Prim.Native.Nat.{_<_};
+ghost use mathlib.Core.Path.{_≡_};
+ghost use mathlib.Core.Bool.{true};
+ghost use lib.ListN.{length};
+ghost use Rattle.obligations.specs.Limits.{activities};
+ghost use Rattle.obligations.specs.Sets.{union};
+ghost use Rattle.net.specs.Orderly.{orderly};
+ghost use Rattle.walks.specs.Links.{unionOf, filled, RowWalks, Walks};
+ghost use Rattle.walks.specs.Check.{checkSaid, checkSays};
+
+// Passed: the number of arcs. Refused: the refusal's number and the place that is returned with it.
+pub enum CheckAnswer {
+    Passed { arcs: u32 },
+    Refused { number: u32, place: u32 },
+}
+
+// The activities of a net that are on no walk from start to end, and the number of its arcs.
+pub struct Walked {
+    pub lost: u32,
+    pub arcs: u32,
+}
+
+// The net check.
+pub fn check(net: Net) -> CheckAnswer
+    ensures { λ r. ⌜ checkSaid r ≡ checkSays net ⌝ }
+{
+    if !is_orderly(net) {
+        return CheckAnswer::Refused {
+            number: refusal::DISORDERLY,
+            place: 0,
+        };
+    }
+    let walked = walk_all(net);
+    let lost = walked.lost;
+    if lost != 0 {
+        return CheckAnswer::Refused {
+            number: refusal::ON_NO_WALK,
+            place: u32::trailing_zeros(lost),
+        };
+    }
+    CheckAnswer::Passed { arcs: walked.arcs }
+}
+
+// What the check finds of an orderly net. Callers that have tested the record call this.
+pub fn walk_all(net: Net) -> Walked
+    requires { ⌜ orderly net ≡ true ⌝ }
+    ensures { λ r. ⌜ Walks net r ⌝ }
+{
+    let start = net.start;
+    let end = net.end;
+    let inputs = arcs::named_rows(&net.inputs, &net.input_len);
+    let outputs = arcs::named_rows(&net.outputs, &net.output_len);
+    let on_inputs = on_sides(&inputs, &net.input_len);
+    let on_outputs = on_sides(&outputs, &net.output_len);
+    let ends = sets::with(sets::single(start), end);
+    let all = sets::union(ends, sets::union(on_inputs, on_outputs));
+    walk_rows(&inputs, &outputs, start, end, all)
+}
+
+// The activities with a set on this kind of side, and those named in one.
+fn on_sides<'a>(named: &'a [u32], lengths: &'a [u32]) -> u32
+    requires { ⌜ length (now lengths) ≡ activities ⌝ }
+    ensures { λ r. ⌜ r ≡ union (filled (now (lengths .entry))) (unionOf (now (named .entry))) ⌝ }
+{
+    sets::union(arcs::filled(lengths), arcs::union_of(named))
+}
+
+// The members of a set that are on no walk from start to end, where the rows have those named on each activity's sides, and
+// the number of arcs.
+fn walk_rows<'a>(inputs: &'a [u32], outputs: &'a [u32], start: u32, end: u32, all: u32) -> Walked
+    requires { ⌜ (length (now inputs) ≡ activities) × (length (now outputs) ≡ activities) ⌝ }
+    requires { ⌜ (start < activities) × (end < activities) ⌝ }
+    ensures { λ r. ⌜ RowWalks (now (inputs .entry)) (now (outputs .entry)) start end all r ⌝ }
+{
+    let next = arcs::links(outputs, inputs);
+    let back = arcs::links(inputs, outputs);
+    let from = reach::reach(&next, start);
+    let to = reach::reach(&back, end);
+    Walked {
+        lost: sets::union(sets::minus(all, from), sets::minus(all, to)),
+        arcs: arcs::sizes(&next),
+    }
+}
