@@ -45,7 +45,7 @@ fails-first n test i f =
     from-at test 0 n i (f .inside) (λ j l. rw (zero-add j) (f .before j l)) (rw (zero-add i) (f .fails)) ∙ ap suc (zero-add i)
 
 -- one of the two holds
-pass-or-fails : (n : ℕ) (test : ℕ → Bool) → AllPass n test ⊎ ((i : ℕ) × FailsFirst n test i)
+pub pass-or-fails : (n : ℕ) (test : ℕ → Bool) → AllPass n test ⊎ ((i : ℕ) × FailsFirst n test i)
 pass-or-fails zero test = inl (λ i l. absurd (omega arith))
 pass-or-fails (suc n) test = ⊎-elim (λ all. last all (true-or-false (test n))) (λ f. inr (f .0, wider (f .0) (f .1))) (pass-or-fails n test)
   where

@@ -144,6 +144,14 @@ completes-each d [] e i h = absurd (omega arith)
 completes-each d (b ∷ s) e zero h = and-left (possible d (b .activity) (b .input)) (completes (fired d b) s) e
 completes-each d (b ∷ s) e (suc i) h = completes-each (fired d b) s (and-right (possible d (b .activity) (b .input)) (completes (fired d b) s) e) i (omega arith)
 
+pub each-from-possible : (s : List Binding) → EachFrom nothing s → firstImpossible s ≡ 0
+unfolding possibleAt
+each-from-possible s h = pass-impossible s h
+
+pub each-possible-from : (s : List Binding) → firstImpossible s ≡ 0 → EachFrom nothing s
+unfolding possibleAt firstImpossible
+each-possible-from s e = first-pass (length s) (possibleAt s) e
+
 pub completes-zero : (d : List ℕ) (s : List Binding) → completes d s ≡ true → allZero (run d s) ≡ true
 unfolding completes run
 completes-zero d [] e = e

@@ -1,0 +1,173 @@
+-- Which sequences are accepted: every link of the chain passes exactly if its sentence doesn't hold, and together they say
+-- well-formed and fitting. Assumes nothing.
+use Prim.Native.Nat.{ℕ, _+_, _*_, _/_, _%_, _^_, _≤_, _<_}
+use mathlib.Core.Path.{_≡_, refl, sym, subst}
+use mathlib.Core.Bool.{Bool, true, false, cond, Bool·beq}
+use mathlib.Core.List.{List}
+use mathlib.Core.Logic.{_↔_}
+use native.Mathlib.Decide.{ℕ-discrete as decEq}
+use native.Mathlib.Omega.{arith}
+use borrow.Author.Tests.{eq-eqb, ne-eqb, eqb-true, le-leb, leb-true}
+use lib.Dec.{eqb, leb}
+use lib.ListN.{length}
+use Rattle.obligations.specs.State.{allZero}
+use Rattle.obligations.specs.Trace.{firstNoActivity, shaped, Shaped}
+use Rattle.obligations.specs.Sequence.{Binding, bindings, at, ψ, WellFormed, firstImpossible}
+use Rattle.obligations.specs.Statements.{InputsAreMasks}
+use Rattle.obligations.proofs.BoolLaws.{and-left, and-right, and-both, false-not-true}
+use Rattle.obligations.proofs.CountLaws.{zero-count, count-zero}
+use Rattle.obligations.proofs.PositionLaws.{pass-first, first-pass}
+use Rattle.obligations.proofs.TraceLaws.{agree-iff, shaped-facts, facts-shaped, activities-below, below-activities}
+use Rattle.obligations.proofs.SequenceLaws.{none-impossible, held-at}
+use Rattle.net.specs.Refusals.{Says, refused}
+use Rattle.net.specs.Orderly.{orderly}
+use Rattle.net.specs.Put.{misplaced}
+use Rattle.net.specs.declared.Net.{Net}
+use Rattle.net.proofs.OrderlyLaws.{orderly-facts, facts-orderly}
+use Rattle.sequences.specs.Refusing.{unless, noneAt}
+use Rattle.sequences.specs.Limits.{wordsFit, withinLimits}
+use Rattle.sequences.specs.Gain.{fits}
+use Rattle.sequences.specs.Learn.{emptyAgree, firstWronglyEmpty, learnPositions, learnSays}
+use Rattle.sequences.specs.Statements.{Words, Learnable}
+use Rattle.sequences.proofs.FitLaws.{Placed, fits-exactly}
+
+-- ---- a link of a chain
+
+pub unless-passes : (t : Bool) (n : ℕ) (rest : Says) → (unless t n rest .ok ≡ true) ↔ ((t ≡ true) × (rest .ok ≡ true))
+unless-passes true n rest = ((λ e. (refl, e)), (λ w. w .1))
+unless-passes false n rest = ((λ e. absurd (false-not-true refl e)), (λ w. absurd (false-not-true refl (w .0))))
+
+pub none-passes : (p n : ℕ) (rest : Says) → (noneAt p n rest .ok ≡ true) ↔ ((p ≡ 0) × (rest .ok ≡ true))
+none-passes p n rest =
+    let u = unless-cond (eqb p 0) in
+    ((λ e. (eqb-true p 0 (u .0 e .0), u .0 e .1)), (λ w. u .1 (eq-eqb p 0 (w .0), w .1)))
+  where
+    unless-cond : (t : Bool) → (cond t rest (refused n p) .ok ≡ true) ↔ ((t ≡ true) × (rest .ok ≡ true))
+    unless-cond true = ((λ e. (refl, e)), (λ w. w .1))
+    unless-cond false = ((λ e. absurd (false-not-true refl e)), (λ w. absurd (false-not-true refl (w .0))))
+
+-- ---- refusal 9
+
+-- X is empty at the first position only, and Y at the last only
+pub record EmptyWhere (s : List Binding) : Type 0 where
+  pub inputs : (i : ℕ) → i < length s → (at s i .input ≡ 0) ↔ (i ≡ 0)
+  pub outputs : (i : ℕ) → i < length s → (at s i .output ≡ 0) ↔ (i + 1 ≡ length s)
+
+pub empty-facts : (s : List Binding) → firstWronglyEmpty s ≡ 0 → EmptyWhere s
+unfolding firstWronglyEmpty emptyAgree
+empty-facts s e =
+    let each = first-pass (length s) (emptyAgree s) e in
+    record {
+      inputs = λ i l. agree-iff (at s i .input) 0 i 0 .0 (and-left (Bool·beq (eqb (at s i .input) 0) (eqb i 0)) (Bool·beq (eqb (at s i .output) 0) (eqb (i + 1) (length s))) (each i l));
+      outputs = λ i l. agree-iff (at s i .output) 0 (i + 1) (length s) .0 (and-right (Bool·beq (eqb (at s i .input) 0) (eqb i 0)) (Bool·beq (eqb (at s i .output) 0) (eqb (i + 1) (length s))) (each i l));
+    }
+
+pub facts-empty : (s : List Binding) → EmptyWhere s → firstWronglyEmpty s ≡ 0
+unfolding firstWronglyEmpty emptyAgree
+facts-empty s f = pass-first (length s) (emptyAgree s) (λ i l. and-both (agree-iff (at s i .input) 0 i 0 .1 (f .inputs i l)) (agree-iff (at s i .output) 0 (i + 1) (length s) .1 (f .outputs i l)))
+
+-- ---- no set is misplaced in a sequence whose ends and empty sets are where they have to be
+
+placed-one : (empty a m : ℕ) → (m ≡ 0) ↔ (a ≡ empty) → misplaced empty a m ≡ false
+unfolding misplaced
+placed-one empty a m f = elim (decEq m 0) [
+  | yes e ↦ rw (eq-eqb m 0 e, eq-eqb a empty (f .0 e))
+  | no d ↦ rw (ne-eqb m 0 d) (ne-eqb a empty (λ q. d (f .1 q)))
+]
+
+pub well-placed : (net : Net) (s : List Binding) → Shaped (net .start) (net .end) (length s) (λ i. at s i .activity) → EmptyWhere s → Placed net s
+well-placed net s h f i l = (
+  placed-one (net .start) (at s i .activity) (at s i .input) ((λ e. h .start-first-only i l .1 (f .inputs i l .0 e)), (λ e. f .inputs i l .1 (h .start-first-only i l .0 e))),
+  placed-one (net .end) (at s i .activity) (at s i .output) ((λ e. h .end-last-only i l .1 (f .outputs i l .0 e)), (λ e. f .outputs i l .1 (h .end-last-only i l .0 e))),
+)
+
+-- ---- a sequence's words
+
+pub masks-of : (ws : List ℕ) → Words ws → InputsAreMasks (bindings ws)
+masks-of ws w i l = subst (λ (m : ℕ). m < 2 ^ 32) (sym (held-at ws i l .input-held)) (w (3 * i + 1))
+
+pub words-whole : (ws : List ℕ) → wordsFit ws ≡ true → (n : ℕ) × (length ws ≡ 3 * n) × (n ≤ 64)
+unfolding wordsFit
+words-whole ws e =
+    let d = eqb-true (length ws % 3) 0 (and-left (eqb (length ws % 3) 0) (leb (length ws) 192) e) in
+    let m = leb-true (length ws) 192 (and-right (eqb (length ws % 3) 0) (leb (length ws) 192) e) in
+    (length ws / 3, omega arith, omega arith)
+
+pub whole-words : (ws : List ℕ) (n : ℕ) → length ws ≡ 3 * n → n ≤ 64 → wordsFit ws ≡ true
+unfolding wordsFit
+whole-words ws n e h = and-both (eq-eqb (length ws % 3) 0 (omega arith)) (le-leb (length ws) 192 (omega arith))
+
+-- ---- what learn accepts
+
+-- well-formed, by the tests of a chain
+module _ (start end : ℕ) (s : List Binding) (m : InputsAreMasks s) where
+  pub tests-well-formed : firstNoActivity (length s) (λ i. at s i .activity) ≡ 0 → shaped start end (length s) (λ i. at s i .activity) ≡ true → EmptyWhere s
+      → firstImpossible s ≡ 0 → allZero (ψ s) ≡ true → WellFormed start end s
+  tests-well-formed a h e p z = record {
+    activities-only = activities-below (length s) (λ i. at s i .activity) a;
+    shape = shaped-facts start end (length s) (λ i. at s i .activity) h;
+    input-empty-first-only = e .inputs;
+    output-empty-last-only = e .outputs;
+    each-possible = none-impossible s m .0 p;
+    nothing-left = zero-count (ψ s) z;
+  }
+
+-- each test, from well-formed
+module _ (start end : ℕ) (s : List Binding) (m : InputsAreMasks s) (f : WellFormed start end s) where
+  pub formed-activities : firstNoActivity (length s) (λ i. at s i .activity) ≡ 0
+  formed-activities = below-activities (length s) (λ i. at s i .activity) (f .activities-only)
+
+  pub formed-shaped : shaped start end (length s) (λ i. at s i .activity) ≡ true
+  formed-shaped = facts-shaped start end (length s) (λ i. at s i .activity) (f .shape)
+
+  pub formed-empty : EmptyWhere s
+  formed-empty = record { inputs = f .input-empty-first-only; outputs = f .output-empty-last-only }
+
+  pub formed-possible : firstImpossible s ≡ 0
+  formed-possible = none-impossible s m .1 (f .each-possible)
+
+  pub formed-zero : allZero (ψ s) ≡ true
+  formed-zero = count-zero (ψ s) (f .nothing-left)
+
+module _ (net : Net) (ws : List ℕ) (w : Words ws) where
+  pub accepted-learnable : learnSays net ws .ok ≡ true → Learnable net ws
+  unfolding learnSays withinLimits learnPositions
+  accepted-learnable e =
+      let s = bindings ws in
+      let c₂ = unless-passes (orderly net) 2 _ .0 e in
+      let c₃ = unless-passes (wordsFit ws) 3 _ .0 (c₂ .1) in
+      let c₄ = none-passes (firstNoActivity (length s) (λ i. at s i .activity)) 4 _ .0 (c₃ .1) in
+      let c₇ = unless-passes (shaped (net .start) (net .end) (length s) (λ i. at s i .activity)) 7 _ .0 (c₄ .1) in
+      let c₉ = none-passes (firstWronglyEmpty s) 9 _ .0 (c₇ .1) in
+      let c₁₀ = none-passes (firstImpossible s) 10 _ .0 (c₉ .1) in
+      let c₁₁ = unless-passes (allZero (ψ s)) 11 _ .0 (c₁₀ .1) in
+      let c₁₂ = unless-passes (fits net s) 12 _ .0 (c₁₁ .1) in
+      let n = words-whole ws (c₃ .0) in
+      let f = tests-well-formed (net .start) (net .end) s (masks-of ws w) (c₄ .0) (c₇ .0) (empty-facts s (c₉ .0)) (c₁₀ .0) (c₁₁ .0) in
+      record {
+        net-orderly = orderly-facts net (c₂ .0);
+        count = n .0;
+        whole = n .1;
+        few = n .2;
+        well-formed = f;
+        fitting = fits-exactly net s (c₂ .0) (f .activities-only) (well-placed net s (f .shape) (empty-facts s (c₉ .0))) .0 (c₁₂ .0);
+      }
+
+  pub learnable-accepted : Learnable net ws → learnSays net ws .ok ≡ true
+  unfolding learnSays withinLimits learnPositions
+  learnable-accepted l =
+      let s = bindings ws in
+      let f = l .well-formed in
+      let m = masks-of ws w in
+      let o = facts-orderly net (l .net-orderly) in
+      let e = formed-empty (net .start) (net .end) s m f in
+      rw (
+        o,
+        whole-words ws (l .count) (l .whole) (l .few),
+        formed-activities (net .start) (net .end) s m f,
+        formed-shaped (net .start) (net .end) s m f,
+        facts-empty s e,
+        formed-possible (net .start) (net .end) s m f,
+        formed-zero (net .start) (net .end) s m f,
+        fits-exactly net s o (f .activities-only) (well-placed net s (f .shape) e) .1 (l .fitting),
+      )

@@ -1,0 +1,145 @@
+-- The loop that gains a sequence's sets: what holds after i positions, one position more, and its ways out. What is still to
+-- be gained into the arrays so far is what is to be gained into the net given. Assumes nothing.
+use Prim.Native.Nat.{ℕ, suc, _+_, _*_, _≤_, _<_}
+use mathlib.Core.Path.{_≡_, refl, sym, ap, _∙_}
+use mathlib.Core.Bool.{Bool, true, false, cond}
+use mathlib.Core.List.{List, _∷_}
+use native.Mathlib.Numerals.{add-one}
+use native.Mathlib.Omega.{arith}
+use lib.Dec.{eqb}
+use lib.ListN.{length, getD, drop, drop-of-length-le}
+use lib.Seq.{drop-cons}
+use Rattle.obligations.specs.Sequence.{Binding, at}
+use Rattle.net.specs.Refusals.{Says, accepted, refused}
+use Rattle.net.specs.Lists.{listed}
+use Rattle.net.specs.Sides.{sideIn, netSize}
+use Rattle.net.specs.Orderly.{orderly}
+use Rattle.net.specs.Put.{misplaced, sideSays, putMasks, putLengths}
+use Rattle.net.specs.declared.Net.{Net}
+use Rattle.net.specs.declared.Side.the-variants.{Input, Output}
+use Rattle.net.proofs.SideLaws.{OrderlySides}
+use Rattle.net.proofs.PutSideLaws.{put-side-total, put-side-orderly}
+use Rattle.net.proofs.OrderlyLaws.{orderly-sides}
+use Rattle.sequences.specs.Gain.{withPut, takesPut, withBinding, takesBinding, gained, fits, addedBy}
+use Rattle.sequences.specs.Learn.{GainDone, RefusedWith, newSets}
+use Rattle.sequences.specs.declared.LearnResult.{LearnResult}
+
+-- the net with other arrays
+abbrev pub netWith : Net → List ℕ → List ℕ → List ℕ → List ℕ → Net
+netWith net inputs inputLen outputs outputLen =
+    record { start = net .start; end = net .end; inputs = inputs; outputs = outputs; «input_len» = inputLen; «output_len» = outputLen }
+
+-- ---- what a put adds
+
+side-value : (masks lengths : List ℕ) (empty a m : ℕ) → sideSays masks lengths empty a m .value ≤ 1
+unfolding sideSays
+side-value masks lengths empty a m = go (misplaced empty a m) (listed m (sideIn masks lengths a)) (eqb (getD lengths a 0) 16)
+  where
+    go : (p q r : Bool) → cond p (refused 5 0) (cond q (accepted 0) (cond r (refused 12 0) (accepted 1))) .value ≤ 1
+    go true q r = omega arith
+    go false true r = omega arith
+    go false false true = omega arith
+    go false false false = omega arith
+
+pub added-small : (masks lengths : List ℕ) (empty a m : ℕ) → addedBy (sideSays masks lengths empty a m) ≤ 2
+unfolding addedBy
+added-small masks lengths empty a m = go (sideSays masks lengths empty a m .ok)
+  where
+    go : (t : Bool) → cond t (sideSays masks lengths empty a m .value) 2 ≤ 2
+    go true = omega (arith, side-value masks lengths empty a m)
+    go false = omega arith
+
+added-refused : (says : Says) → says .value ≤ 1 → addedBy says ≡ 2 → says .ok ≡ false
+unfolding addedBy
+added-refused says v e = go (says .ok) e
+  where
+    go : (t : Bool) → cond t (says .value) 2 ≡ 2 → t ≡ false
+    go true q = absurd (omega arith)
+    go false q = refl
+
+added-taken : (says : Says) → (addedBy says ≡ 2 → ⊥) → (says .ok ≡ true) × (addedBy says ≡ says .value)
+unfolding addedBy
+added-taken says ne = go (says .ok) ne
+  where
+    go : (t : Bool) → (cond t (says .value) 2 ≡ 2 → ⊥) → (t ≡ true) × (cond t (says .value) 2 ≡ says .value)
+    go true n = (refl, refl)
+    go false n = absurd (n refl)
+
+-- ---- the loop
+
+-- after i positions, with the arrays so far and the number of sets added
+pub record Gaining (net : Net) (s : List Binding) (i : ℕ) (inputs inputLen outputs outputLen : List ℕ) (new : ℕ) : Type 0 where
+  pub inputs-orderly : OrderlySides inputs inputLen (net .start)
+  pub outputs-orderly : OrderlySides outputs outputLen (net .end)
+  pub gained-rest : gained net s ≡ gained (netWith net inputs inputLen outputs outputLen) (drop i s)
+  pub fits-rest : fits net s ≡ fits (netWith net inputs inputLen outputs outputLen) (drop i s)
+  pub grown : netSize (netWith net inputs inputLen outputs outputLen) ≡ netSize net + new
+  pub bounded : new ≤ 2 * i
+
+pub gaining-start : (net : Net) (s : List Binding) → orderly net ≡ true → Gaining net s 0 (net .inputs) (net .«input_len») (net .outputs) (net .«output_len») 0
+gaining-start net s o = record {
+  inputs-orderly = orderly-sides net o Input;
+  outputs-orderly = orderly-sides net o Output;
+  gained-rest = refl;
+  fits-rest = refl;
+  grown = omega arith;
+  bounded = omega arith;
+}
+
+module _ (net : Net) (s : List Binding) (i : ℕ) (inputs inputLen outputs outputLen : List ℕ) (new : ℕ) (g : Gaining net s i inputs inputLen outputs outputLen new) where
+  -- at the end
+  pub gaining-end : length s ≤ i → (gained net s ≡ netWith net inputs inputLen outputs outputLen) × (fits net s ≡ true) × (new ≡ newSets net s)
+  unfolding gained fits
+  gaining-end h =
+      let d = drop-of-length-le s {i = i} h in
+      let e : gained net s ≡ netWith net inputs inputLen outputs outputLen = g .gained-rest ∙ ap (gained (netWith net inputs inputLen outputs outputLen)) d in
+      (e, g .fits-rest ∙ ap (fits (netWith net inputs inputLen outputs outputLen)) d, omega (arith, g .grown, ap netSize e))
+
+  module _ (h : i < length s) (a x y : ℕ) (ea : a ≡ at s i .activity) (ex : x ≡ at s i .input) (ey : y ≡ at s i .output) (low : a < 32) where
+    here : at s i ≡ record { activity = a; input = x; output = y }
+    here = λ j. record { activity = sym ea j; input = sym ex j; output = sym ey j }
+
+    cut : drop i s ≡ record { activity = a; input = x; output = y } ∷ drop (i + 1) s
+    cut = rw add-one (drop-cons s i (record { activity = 0; input = 0; output = 0 }) h ∙ ap (λ (b : Binding). b ∷ drop (suc i) s) here)
+
+    pub no-input-room : addedBy (sideSays inputs inputLen (net .start) a x) ≡ 2 → fits net s ≡ false
+    unfolding fits takesBinding takesPut
+    no-input-room e =
+        g .fits-rest ∙ ap (fits (netWith net inputs inputLen outputs outputLen)) cut
+        ∙ (rw (added-refused (sideSays inputs inputLen (net .start) a x) (side-value inputs inputLen (net .start) a x) e))
+
+    pub no-output-room : (addedBy (sideSays inputs inputLen (net .start) a x) ≡ 2 → ⊥) → addedBy (sideSays outputs outputLen (net .end) a y) ≡ 2 → fits net s ≡ false
+    unfolding fits takesBinding takesPut withPut
+    no-output-room t e =
+        g .fits-rest ∙ ap (fits (netWith net inputs inputLen outputs outputLen)) cut
+        ∙ (rw (added-taken (sideSays inputs inputLen (net .start) a x) t .0, added-refused (sideSays outputs outputLen (net .end) a y) (side-value outputs outputLen (net .end) a y) e))
+
+    next : (addedBy (sideSays inputs inputLen (net .start) a x) ≡ 2 → ⊥) → (addedBy (sideSays outputs outputLen (net .end) a y) ≡ 2 → ⊥)
+        → Gaining net s (i + 1) (putMasks inputs inputLen (net .start) a x) (putLengths inputs inputLen (net .start) a x) (putMasks outputs outputLen (net .end) a y) (putLengths outputs outputLen (net .end) a y) (new + (addedBy (sideSays inputs inputLen (net .start) a x) + addedBy (sideSays outputs outputLen (net .end) a y)))
+    unfolding gained fits withBinding takesBinding withPut takesPut
+    next nu nv =
+        let tx = added-taken (sideSays inputs inputLen (net .start) a x) nu in
+        let ty = added-taken (sideSays outputs outputLen (net .end) a y) nv in
+        record {
+          inputs-orderly = put-side-orderly inputs inputLen (net .start) a x (g .inputs-orderly) low;
+          outputs-orderly = put-side-orderly outputs outputLen (net .end) a y (g .outputs-orderly) low;
+          gained-rest = g .gained-rest ∙ ap (gained (netWith net inputs inputLen outputs outputLen)) cut;
+          fits-rest = g .fits-rest ∙ ap (fits (netWith net inputs inputLen outputs outputLen)) cut ∙ rw (tx .0, ty .0);
+          grown =
+              omega (arith, g .grown, tx .1, ty .1, put-side-total inputs inputLen (net .start) a x (omega (arith, g .inputs-orderly .lengths-long)), put-side-total outputs outputLen (net .end) a y (omega (arith, g .outputs-orderly .lengths-long)));
+          bounded = omega (arith, g .bounded, tx .1, ty .1, side-value inputs inputLen (net .start) a x, side-value outputs outputLen (net .end) a y);
+        }
+
+    -- one position more
+    pub gaining-next : (inputs′ inputLen′ outputs′ outputLen′ : List ℕ) (u v : ℕ)
+        → inputs′ ≡ putMasks inputs inputLen (net .start) a x → inputLen′ ≡ putLengths inputs inputLen (net .start) a x
+        → outputs′ ≡ putMasks outputs outputLen (net .end) a y → outputLen′ ≡ putLengths outputs outputLen (net .end) a y
+        → u ≡ addedBy (sideSays inputs inputLen (net .start) a x) → (u ≡ 2 → ⊥)
+        → v ≡ addedBy (sideSays outputs outputLen (net .end) a y) → (v ≡ 2 → ⊥)
+        → Gaining net s (i + 1) inputs′ inputLen′ outputs′ outputLen′ (new + (u + v))
+    gaining-next inputs′ inputLen′ outputs′ outputLen′ u v e₁ e₂ e₃ e₄ eu nu ev nv =
+        rw (e₁, e₂, e₃, e₄, eu, ev) (next (λ q. nu (eu ∙ q)) (λ q. nv (ev ∙ q)))
+
+-- a call that was refused for want of room
+pub gain-refused : (net : Net) (s : List Binding) {r : LearnResult} → fits net s ≡ false → RefusedWith net 12 0 r → GainDone net s r
+gain-refused net s f n = record { says = rw f (n .says); gives = rw f (n .gives) }

@@ -1,0 +1,215 @@
+-- Refusal 8, position by position and side by side, the peak's bounds, and the chain of judge's refusals. Assumes nothing.
+use Prim.Native.Nat.{ℕ, suc, _+_, _-_, _*_, _≤_, _<_, min}
+use mathlib.Core.Path.{_≡_, refl, sym, ap, ap₂, _∙_}
+use mathlib.Core.Bool.{Bool, true, false, _&&_, and-false}
+use mathlib.Core.List.{List, [], _∷_}
+use mathlib.Core.Logic.{_⊎_, inl, inr, ⊎-elim}
+use native.Mathlib.Omega.{arith}
+use borrow.Author.Tests.{ne-eqb, eqb-true}
+use lib.ListN.{length, getD, drop}
+use Rattle.obligations.specs.Tests.{firstFailing}
+use Rattle.obligations.proofs.BoolLaws.{and-both}
+use Rattle.obligations.proofs.SetLaws.{lt-or-le}
+use Rattle.obligations.proofs.PositionLaws.{AllPass, FailsFirst, pass-first, fails-first, pass-or-fails, first-ext}
+use Rattle.net.specs.Lists.{listed}
+use Rattle.net.specs.Sides.{Sides, sideIn}
+use Rattle.net.proofs.SideLaws.{length-side, side-at}
+use Rattle.net.proofs.ListLaws.{listed-here, listed-next, listed-end}
+use Rattle.obligations.specs.State.{nothing, total, State}
+use Rattle.obligations.specs.Trace.{shaped}
+use Rattle.obligations.specs.Sequence.{Binding, bindings, at, run, firstImpossible}
+use Rattle.obligations.proofs.StateLaws.{after-state, nothing-state, nothing-zero}
+use Rattle.obligations.proofs.TotalLaws.{after-total, zero-total}
+use Rattle.obligations.proofs.SequenceLaws.{fired, EachFrom, held-at, each-possible-from}
+use Rattle.net.specs.Refusals.{refused}
+use Rattle.net.specs.Orderly.{orderly}
+use Rattle.net.specs.declared.Net.{Net}
+use Rattle.net.specs.declared.Side.the-variants.{Input, Output}
+use Rattle.walks.specs.Check.{lost, lowest}
+use Rattle.sequences.specs.Limits.{limitsSaid, LimitsOf}
+use Rattle.sequences.specs.Run.{Positions, largestTotal, outputSizes, ran}
+use Rattle.sequences.specs.Judge.{onSideAt, firstMissing, onWalks, runSays, judgePositions, judgeSays, PeakOf, RunJudged, PositionsJudged, JudgeDone, earlier}
+use Rattle.sequences.specs.declared.JudgeAnswer.{JudgeAnswer}
+use Rattle.sequences.specs.declared.JudgeAnswer.the-variants.{Judged, Refused}
+use Rattle.sequences.specs.declared.Limited.{Limited}
+use Rattle.sequences.specs.declared.Limited.the-variants.{Within, Beyond}
+use Rattle.sequences.specs.declared.Ran.the-variants.{Impossible, LeftOver, Settled}
+use Rattle.sequences.proofs.WordLaws.{positions-many}
+use Rattle.sequences.proofs.RunLaws.{impossible-shown, left-shown, settled-shown}
+use Rattle.sequences.proofs.GrowthLaws.{Activities}
+
+-- ---- the search of one side's sets, from the place j on
+
+-- whether the set is on the side is whether it is among the places from j on
+pub record Searching (masks lengths : List ℕ) (a set j : ℕ) : Type 0 where
+  pub low : 16 * a ≤ j
+  pub high : j ≤ 16 * a + getD lengths a 0
+  pub rest : listed set (sideIn masks lengths a) ≡ listed set (drop (j - 16 * a) (sideIn masks lengths a))
+
+pub searching-start : (masks lengths : List ℕ) (a set : ℕ) → Searching masks lengths a set (16 * a)
+searching-start masks lengths a set = record { low = omega arith; high = omega arith; rest = let e : 16 * a - 16 * a ≡ 0 = omega arith in rw e }
+
+module _ (masks lengths : List ℕ) (a set j : ℕ) (s : Sides masks lengths) (h : a < 32) (r : Searching masks lengths a set j) where
+  size : length (sideIn masks lengths a) ≡ getD lengths a 0
+  size = length-side masks lengths a (s .masks-long) h (s .at-most a h)
+
+  element : j < 16 * a + getD lengths a 0 → getD (sideIn masks lengths a) (j - 16 * a) 0 ≡ getD masks j 0
+  element u = let e : 16 * a + (j - 16 * a) ≡ j = omega (arith, r .low) in side-at masks lengths a (j - 16 * a) (omega (arith, r .low)) ∙ ap (λ (k : ℕ). getD masks k 0) e
+
+  pub searching-found : j < 16 * a + getD lengths a 0 → getD masks j 0 ≡ set → listed set (sideIn masks lengths a) ≡ true
+  searching-found u e = r .rest ∙ listed-here set (j - 16 * a) (sideIn masks lengths a) (omega (arith, size, r .low)) (element u ∙ e)
+
+  pub searching-next : j < 16 * a + getD lengths a 0 → (getD masks j 0 ≡ set → ⊥) → Searching masks lengths a set (j + 1)
+  searching-next u ne = record {
+    low = omega (arith, r .low);
+    high = omega arith;
+    rest =
+        let e : (j + 1) - 16 * a ≡ (j - 16 * a) + 1 = omega (arith, r .low) in
+        r .rest ∙ listed-next set (j - 16 * a) (sideIn masks lengths a) (omega (arith, size, r .low)) (λ q. ne (sym (element u) ∙ q)) ∙ ap (λ (k : ℕ). listed set (drop k (sideIn masks lengths a))) (sym e);
+  }
+
+  pub searching-end : 16 * a + getD lengths a 0 ≤ j → listed set (sideIn masks lengths a) ≡ false
+  searching-end u = r .rest ∙ listed-end set (j - 16 * a) (sideIn masks lengths a) (omega (arith, size, r .low))
+
+-- ---- the earlier of two positions
+
+pub earlier-second : (q : ℕ) → earlier 0 q ≡ q
+unfolding earlier
+earlier-second q = refl
+
+pub earlier-first : (p : ℕ) → 0 < p → earlier p 0 ≡ p
+unfolding earlier
+earlier-first p h = rw (ne-eqb p 0 (λ e. omega arith))
+
+pub earlier-lower : (p q : ℕ) → 0 < p → 0 < q → earlier p q ≡ min p q
+unfolding earlier
+earlier-lower p q h k = rw (ne-eqb p 0 (λ e. omega arith), ne-eqb q 0 (λ e. omega arith))
+
+module _ (n : ℕ) (t u : ℕ → Bool) where
+  both-fails : (i : ℕ) → i < n → AllPass i t → AllPass i u → (t i ≡ false) ⊎ (u i ≡ false) → firstFailing n (λ j. t j && u j) ≡ suc i
+  both-fails i h p q f =
+      fails-first n (λ j. t j && u j) i
+      (record { inside = h; before = λ j l. and-both (p j l) (q j l); fails = ⊎-elim (λ e. rw e) (λ e. ap (λ (b : Bool). t i && b) e ∙ and-false (t i)) f })
+
+  -- two tests at once fail first where one of them does
+  pub first-both : firstFailing n (λ i. t i && u i) ≡ earlier (firstFailing n t) (firstFailing n u)
+  first-both = go (pass-or-fails n t) (pass-or-fails n u)
+    where
+      two : (i j : ℕ) → FailsFirst n t i → FailsFirst n u j → firstFailing n (λ k. t k && u k) ≡ min (suc i) (suc j)
+      two i j f g =
+          ⊎-elim (λ l. both-fails i (f .inside) (f .before) (λ k m. g .before k (omega arith)) (inl (f .fails)) ∙ omega arith)
+          (λ l. both-fails j (g .inside) (λ k m. f .before k (omega arith)) (g .before) (inr (g .fails)) ∙ omega arith) (lt-or-le i j)
+
+      go : AllPass n t ⊎ ((i : ℕ) × FailsFirst n t i) → AllPass n u ⊎ ((i : ℕ) × FailsFirst n u i) → firstFailing n (λ i. t i && u i) ≡ earlier (firstFailing n t) (firstFailing n u)
+      go (inl p) (inl q) = rw (pass-first n t p, earlier-second (firstFailing n u), pass-first n u q) (pass-first n (λ i. t i && u i) (λ i l. and-both (p i l) (q i l)))
+      go (inl p) (inr f) =
+          rw (pass-first n t p, earlier-second (firstFailing n u), fails-first n u (f .0) (f .1))
+          (both-fails (f .0) (f .1 .inside) (λ j l. p j (omega (arith, f .1 .inside))) (f .1 .before) (inr (f .1 .fails)))
+      go (inr f) (inl q) =
+          rw (pass-first n u q, fails-first n t (f .0) (f .1), earlier-first (suc (f .0)) (omega arith))
+          (both-fails (f .0) (f .1 .inside) (f .1 .before) (λ j l. q j (omega (arith, f .1 .inside))) (inl (f .1 .fails)))
+      go (inr f) (inr g) =
+          rw (fails-first n t (f .0) (f .1), fails-first n u (g .0) (g .1), earlier-lower (suc (f .0)) (suc (g .0)) (omega arith) (omega arith)) (two (f .0) (g .0) (f .1) (g .1))
+
+-- ---- refusal 8, from the words
+
+module _ (net : Net) (ws : List ℕ) (n : ℕ) (p : Positions ws n) where
+  input-tests : firstFailing n (λ i. listed (getD ws (3 * i + 1) 0) (sideIn (net .inputs) (net .«input_len») (getD ws (3 * i) 0))) ≡ firstFailing n (onSideAt net Input (bindings ws))
+  unfolding onSideAt
+  input-tests =
+      first-ext n (λ i. listed (getD ws (3 * i + 1) 0) (sideIn (net .inputs) (net .«input_len») (getD ws (3 * i) 0))) (onSideAt net Input (bindings ws))
+      (λ i l. let h = held-at ws i (omega (arith, positions-many ws n p)) in ap₂ (λ (m a : ℕ). listed m (sideIn (net .inputs) (net .«input_len») a)) (sym (h .input-held)) (sym (h .activity-held)))
+
+  output-tests : firstFailing n (λ i. listed (getD ws (3 * i + 2) 0) (sideIn (net .outputs) (net .«output_len») (getD ws (3 * i) 0))) ≡ firstFailing n (onSideAt net Output (bindings ws))
+  unfolding onSideAt
+  output-tests =
+      first-ext n (λ i. listed (getD ws (3 * i + 2) 0) (sideIn (net .outputs) (net .«output_len») (getD ws (3 * i) 0))) (onSideAt net Output (bindings ws))
+      (λ i l. let h = held-at ws i (omega (arith, positions-many ws n p)) in ap₂ (λ (m a : ℕ). listed m (sideIn (net .outputs) (net .«output_len») a)) (sym (h .output-held)) (sym (h .activity-held)))
+
+  pub missing-words : (x y : ℕ)
+      → x ≡ firstFailing n (λ i. listed (getD ws (3 * i + 1) 0) (sideIn (net .inputs) (net .«input_len») (getD ws (3 * i) 0)))
+      → y ≡ firstFailing n (λ i. listed (getD ws (3 * i + 2) 0) (sideIn (net .outputs) (net .«output_len») (getD ws (3 * i) 0)))
+      → earlier x y ≡ firstMissing net (bindings ws)
+  unfolding firstMissing
+  missing-words x y ex ey =
+      ap₂ earlier (ex ∙ input-tests) (ey ∙ output-tests)
+      ∙ sym (ap (λ (k : ℕ). firstFailing k (λ i. onSideAt net Input (bindings ws) i && onSideAt net Output (bindings ws) i)) (positions-many ws n p) ∙ first-both n (onSideAt net Input (bindings ws)) (onSideAt net Output (bindings ws)))
+
+-- ---- the peak
+
+-- the total never exceeds what was added so far
+totals-bounded : (d : List ℕ) (s : List Binding) (n : ℕ) → State n d → Activities s → EachFrom d s → largestTotal d s ≤ total d + outputSizes s
+unfolding largestTotal outputSizes run
+totals-bounded d [] n k a e = omega arith
+totals-bounded d (b ∷ s) n k a e =
+    let next = after-total d (b .activity) (b .input) (b .output) (k .long) (a 0 (omega arith)) (e 0 (omega arith)) in
+    let rest = totals-bounded (fired d b) s (n + 1) (after-state n d (b .activity) (b .input) (b .output) k) (λ i l. a (suc i) (omega arith)) (λ i l. e (suc i) (omega arith)) in
+    omega (arith, next, rest)
+
+pub peak-bounded : (s : List Binding) → Activities s → EachFrom nothing s → largestTotal nothing s ≤ outputSizes s
+peak-bounded s a e = omega (arith, totals-bounded nothing s 0 nothing-state a e, zero-total nothing nothing-zero)
+
+-- ---- the chain of refusals
+
+refused-peak : (s : List Binding) (n p : ℕ) → PeakOf s (Refused n p)
+refused-peak s n p = record {
+  at-least = λ k e. absurd (let z : _≡_ {A = ℕ} 0 1 = cc in omega arith);
+  at-most = λ k e. absurd (let z : _≡_ {A = ℕ} 0 1 = cc in omega arith);
+}
+
+module _ (s : List Binding) (h : Activities s) where
+  pub run-impossible : (place : ℕ) → ran s ≡ Impossible place → RunJudged s (Refused 10 place)
+  unfolding runSays
+  run-impossible place q = let f = impossible-shown s place q in record { says = rw (f .0) (ap (refused 10) (sym (f .1))); peak-of = refused-peak s 10 place }
+
+  pub run-left : ran s ≡ LeftOver → RunJudged s (Refused 11 0)
+  unfolding runSays
+  run-left q = let f = left-shown s q in record { says = rw (f .0, f .1); peak-of = refused-peak s 11 0 }
+
+  pub run-settled : (peak : ℕ) → ran s ≡ Settled peak → RunJudged s (Judged peak)
+  unfolding runSays
+  run-settled peak q =
+      let f = settled-shown s peak q in
+      let all = each-possible-from s (eqb-true (firstImpossible s) 0 (f .0)) in
+      let same : (k : ℕ) → Judged peak ≡ Judged k → peak ≡ k = λ k e. cc in
+      record {
+        says = rw (f .0, f .1);
+        peak-of = record { at-least = λ k e. omega (arith, f .2, same k e); at-most = λ k e. omega (arith, f .2, same k e, peak-bounded s h all) };
+      }
+
+module _ (net : Net) (s : List Binding) where
+  pub refused-lost : (lost net ≡ 0 → ⊥) → PositionsJudged net s (Refused 6 (lowest (lost net)))
+  unfolding judgePositions onWalks
+  refused-lost ne = record { says = rw (ne-eqb (lost net) 0 ne); peak-of = refused-peak s 6 (lowest (lost net)) }
+
+  module _ (w : lost net ≡ 0) where
+    pub judged-ends : shaped (net .start) (net .end) (length s) (λ i. at s i .activity) ≡ false → PositionsJudged net s (Refused 7 0)
+    unfolding judgePositions onWalks
+    judged-ends f = record { says = rw (w, f); peak-of = refused-peak s 7 0 }
+
+    module _ (h : shaped (net .start) (net .end) (length s) (λ i. at s i .activity) ≡ true) where
+      pub judged-missing : (place : ℕ) → place ≡ firstMissing net s → (place ≡ 0 → ⊥) → PositionsJudged net s (Refused 8 place)
+      unfolding judgePositions onWalks
+      judged-missing place e ne = record { says = rw (w, h, ← e, ne-eqb place 0 ne); peak-of = refused-peak s 8 place }
+
+      pub judged-run : firstMissing net s ≡ 0 → {r : JudgeAnswer} → RunJudged s r → PositionsJudged net s r
+      unfolding judgePositions onWalks
+      judged-run e j = record { says = rw (w, h, e) (j .says); peak-of = j .peak-of }
+
+module _ (net : Net) (ws : List ℕ) where
+  pub judged-disorderly : orderly net ≡ false → JudgeDone net ws (Refused 2 0)
+  unfolding judgeSays
+  judged-disorderly f = record { says = rw f; peak-of = refused-peak (bindings ws) 2 0 }
+
+  module _ (o : orderly net ≡ true) (l : Limited) (d : LimitsOf ws l) where
+    pub judged-limits : (number place : ℕ) → l ≡ Beyond number place → JudgeDone net ws (Refused number place)
+    unfolding judgeSays
+    judged-limits number place e =
+        let q = sym (d .says (judgePositions net (bindings ws))) ∙ ap (λ (k : Limited). limitsSaid k (judgePositions net (bindings ws))) e in
+        record { says = rw (o, q); peak-of = refused-peak (bindings ws) number place }
+
+    pub judged-positions : (n : ℕ) → l ≡ Within n → {r : JudgeAnswer} → PositionsJudged net (bindings ws) r → JudgeDone net ws r
+    unfolding judgeSays
+    judged-positions n e j =
+        let q = sym (d .says (judgePositions net (bindings ws))) ∙ ap (λ (k : Limited). limitsSaid k (judgePositions net (bindings ws))) e in
+        record { says = rw (o, q) (j .says); peak-of = j .peak-of }

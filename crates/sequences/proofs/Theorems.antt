@@ -1,0 +1,73 @@
+-- The statements of specs/Statements.antt. Assumes nothing.
+use Prim.Native.Nat.{ℕ}
+use mathlib.Core.Path.{_≡_, refl, subst}
+use mathlib.Core.Bool.{true}
+use mathlib.Core.List.{List}
+use mathlib.Core.Logic.{inr}
+use lib.ListN.{length}
+use Rattle.obligations.specs.State.{allZero}
+use Rattle.obligations.specs.Trace.{firstNoActivity, shaped}
+use Rattle.obligations.specs.Sequence.{bindings, at, ψ, WellFormed, firstImpossible}
+use Rattle.obligations.proofs.TraceLaws.{activities-below}
+use Rattle.net.specs.Orderly.{orderly}
+use Rattle.net.specs.declared.Net.{Net}
+use Rattle.net.specs.declared.Side.the-variants.{Input, Output}
+use Rattle.sequences.specs.Limits.{wordsFit, withinLimits}
+use Rattle.sequences.specs.Gain.{gained, fits}
+use Rattle.sequences.specs.Learn.{firstWronglyEmpty, learnPositions, learnSays, learnGives}
+use Rattle.sequences.specs.Statements.{LearnAccepts, LearnHolds, LearnValid, FollowLearns, JudgeAccepts}
+use Rattle.sequences.proofs.AcceptLaws.{unless-passes, none-passes, accepted-learnable, learnable-accepted}
+use Rattle.sequences.proofs.ValidLaws.{accepted-acceptable, acceptable-accepted}
+use Rattle.sequences.proofs.GrowthLaws.{Activities, gained-contained, gained-on-side}
+use Rattle.sequences.proofs.FollowLearnLaws.{follow-is-learn}
+
+pub learn-accepts : LearnAccepts
+learn-accepts net ws w = (accepted-learnable net ws w, learnable-accepted net ws w)
+
+-- what an accepted learn shows of the net and the sequence
+pub record Accepted (net : Net) (ws : List ℕ) : Type 0 where
+  pub net-orderly : orderly net ≡ true
+  pub activities-only : Activities (bindings ws)
+  pub fitting : fits net (bindings ws) ≡ true
+
+pub accepted-parts : (net : Net) (ws : List ℕ) → learnSays net ws .ok ≡ true → Accepted net ws
+unfolding learnSays withinLimits learnPositions
+accepted-parts net ws e =
+    let s = bindings ws in
+    let c₂ = unless-passes (orderly net) 2 _ .0 e in
+    let c₃ = unless-passes (wordsFit ws) 3 _ .0 (c₂ .1) in
+    let c₄ = none-passes (firstNoActivity (length s) (λ i. at s i .activity)) 4 _ .0 (c₃ .1) in
+    let c₇ = unless-passes (shaped (net .start) (net .end) (length s) (λ i. at s i .activity)) 7 _ .0 (c₄ .1) in
+    let c₉ = none-passes (firstWronglyEmpty s) 9 _ .0 (c₇ .1) in
+    let c₁₀ = none-passes (firstImpossible s) 10 _ .0 (c₉ .1) in
+    let c₁₁ = unless-passes (allZero (ψ s)) 11 _ .0 (c₁₀ .1) in
+    let c₁₂ = unless-passes (fits net s) 12 _ .0 (c₁₁ .1) in
+    record { net-orderly = c₂ .0; activities-only = activities-below (length s) (λ i. at s i .activity) (c₄ .0); fitting = c₁₂ .0 }
+
+pub accepted-gives : (net : Net) (ws : List ℕ) → learnSays net ws .ok ≡ true → learnGives net ws ≡ gained net (bindings ws)
+unfolding learnGives
+accepted-gives net ws e = rw e
+
+pub learn-holds : LearnHolds
+learn-holds net ws e side a m =
+    let p = accepted-parts net ws e in
+    rw (accepted-gives net ws e) (gained-on-side net (bindings ws) (p .net-orderly) (p .activities-only) (p .fitting) side a m)
+
+pub learn-valid : LearnValid
+learn-valid net ws w e =
+    let s = bindings ws in
+    let p = accepted-parts net ws e in
+    let k = gained-contained net s (p .net-orderly) (p .activities-only) in
+    let f = accepted-learnable net ws w e .well-formed in
+    rw (accepted-gives net ws e)
+    (record {
+      well-formed = subst (λ (b : ℕ). WellFormed (gained net s .start) b s) (k .same-end) (subst (λ (a : ℕ). WellFormed a (net .end) s) (k .same-start) f);
+      inputs-on-side = λ i l. gained-on-side net s (p .net-orderly) (p .activities-only) (p .fitting) Input (at s i .activity) (at s i .input) .1 (inr (record { position = i; inside = l; activity-is = refl; set-is = refl }));
+      outputs-on-side = λ i l. gained-on-side net s (p .net-orderly) (p .activities-only) (p .fitting) Output (at s i .activity) (at s i .output) .1 (inr (record { position = i; inside = l; activity-is = refl; set-is = refl }));
+    })
+
+pub follow-learns : FollowLearns
+follow-learns = follow-is-learn
+
+pub judge-accepts : JudgeAccepts
+judge-accepts net ws k w = (accepted-acceptable net ws k w, acceptable-accepted net ws k w)

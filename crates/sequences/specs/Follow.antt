@@ -1,0 +1,54 @@
+-- Follow (01, "Follow"; 000, Definition 6): refusals 2, 3, 4, 7, 12 in this order.
+use Prim.Native.Nat.{ℕ, _+_}
+use mathlib.Core.Path.{_≡_}
+use mathlib.Core.Bool.{cond}
+use mathlib.Core.List.{List, [], _∷_}
+use lib.Dec.{ltb}
+use lib.ListN.{length, getD}
+use Rattle.obligations.specs.Sets.{single}
+use Rattle.obligations.specs.Trace.{shaped}
+use Rattle.obligations.specs.Sequence.{Binding}
+use Rattle.net.specs.Refusals.{Says, accepted, disorderly, wrong-ends, full-side}
+use Rattle.net.specs.Orderly.{orderly}
+use Rattle.net.specs.declared.Net.{Net}
+use Rattle.sequences.specs.Refusing.{unless}
+use Rattle.sequences.specs.Limits.{traceWithinLimits}
+use Rattle.sequences.specs.Gain.{gained, fits}
+use Rattle.sequences.specs.Learn.{learnSaid, newSets}
+use Rattle.sequences.specs.declared.LearnResult.{LearnResult}
+
+-- the sequence of a trace: X is the activity before, empty at the first, and Y the activity after, empty at the last;
+-- x stands for the activity before the trace's first
+unfoldable pub followedFrom : ℕ → List ℕ → List Binding
+followedFrom x [] = []
+followedFrom x (a ∷ []) = record { activity = a; input = x; output = 0 } ∷ []
+followedFrom x (a ∷ b ∷ trace) = record { activity = a; input = x; output = single b } ∷ followedFrom (single a) (b ∷ trace)
+
+abbrev pub followed : List ℕ → List Binding
+followed trace = followedFrom 0 trace
+
+-- the Y of the position after i others
+unfoldable pub nextSet : List ℕ → ℕ → ℕ
+nextSet trace i = cond (ltb (i + 1) (length trace)) (single (getD trace (i + 1) 0)) 0
+
+-- refusals 7 and 12, of a trace within the limits
+unfoldable pub followPositions : Net → List ℕ → Says
+followPositions net trace =
+    unless (shaped (net .start) (net .end) (length trace) (λ i. getD trace i 0)) wrong-ends
+    (unless (fits net (followed trace)) full-side
+    (accepted (newSets net (followed trace))))
+
+-- refusals 2, 3 and 4, then those
+unfoldable pub followSays : Net → List ℕ → Says
+followSays net trace = unless (orderly net) disorderly (traceWithinLimits trace (followPositions net trace))
+
+unfoldable pub followGives : Net → List ℕ → Net
+followGives net trace = cond (followSays net trace .ok) (gained net (followed trace)) net
+
+pub record TraceDone (net : Net) (trace : List ℕ) (r : LearnResult) : Type 0 where
+  pub says : learnSaid (r .answer) ≡ followPositions net trace
+  pub gives : r .net ≡ cond (followPositions net trace .ok) (gained net (followed trace)) net
+
+pub record FollowDone (net : Net) (trace : List ℕ) (r : LearnResult) : Type 0 where
+  pub says : learnSaid (r .answer) ≡ followSays net trace
+  pub gives : r .net ≡ followGives net trace

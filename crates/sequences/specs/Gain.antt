@@ -1,0 +1,80 @@
+-- The net gains a sequence's sets (01, "Learning and containment"): each X is put on its activity's input side and each Y on
+-- its output side.
+use Prim.Native.Nat.{ℕ, _<_, _≤_}
+use mathlib.Core.Path.{_≡_}
+use mathlib.Core.Bool.{Bool, true, cond, _&&_}
+use mathlib.Core.List.{List, [], _∷_}
+use lib.Dec.{eqb}
+use lib.ListN.{length}
+use Rattle.obligations.specs.Limits.{activities}
+use Rattle.obligations.specs.Sequence.{Binding, at}
+use Rattle.net.specs.Limits.{sets}
+use Rattle.net.specs.Lists.{listed, insert}
+use Rattle.net.specs.Refusals.{Says}
+use Rattle.net.specs.Sides.{masksOf, lengthsOf, emptyAt, setsOn}
+use Rattle.net.specs.Put.{sideSays, putMasks, putLengths, withSides}
+use Rattle.net.specs.declared.Net.{Net}
+use Rattle.net.specs.declared.Side.{Side}
+use Rattle.net.specs.declared.Side.the-variants.{Input, Output}
+
+-- the net after a put on one side, and whether that put is accepted; the net is orderly and a is an activity
+unfoldable pub withPut : Net → Side → ℕ → ℕ → Net
+withPut net side a m = withSides net side (putMasks (masksOf net side) (lengthsOf net side) (emptyAt net side) a m) (putLengths (masksOf net side) (lengthsOf net side) (emptyAt net side) a m)
+
+unfoldable pub takesPut : Net → Side → ℕ → ℕ → Bool
+takesPut net side a m = sideSays (masksOf net side) (lengthsOf net side) (emptyAt net side) a m .ok
+
+-- the net after one position's puts, and whether both are accepted
+unfoldable pub withBinding : Net → Binding → Net
+withBinding net b = withPut (withPut net Input (b .activity) (b .input)) Output (b .activity) (b .output)
+
+unfoldable pub takesBinding : Net → Binding → Bool
+takesBinding net b = takesPut net Input (b .activity) (b .input) && takesPut (withPut net Input (b .activity) (b .input)) Output (b .activity) (b .output)
+
+-- the net with all of a sequence's sets
+unfoldable pub gained : Net → List Binding → Net
+gained net [] = net
+gained net (b ∷ s) = gained (withBinding net b) s
+
+-- every put is accepted: no side would exceed 16 sets
+unfoldable pub fits : Net → List Binding → Bool
+fits net [] = true
+fits net (b ∷ s) = takesBinding net b && fits (withBinding net b) s
+
+-- ---- the same without puts: a side's sets together with those that a sequence has for it
+
+-- the set that a binding has for a kind of side
+abbrev pub setFor : Side → Binding → ℕ
+setFor Input b = b .input
+setFor Output b = b .output
+
+-- an ascending list with m, which may be one of its elements
+unfoldable pub joined : ℕ → List ℕ → List ℕ
+joined m ms = cond (listed m ms) ms (insert m ms)
+
+-- the sets ms of activity a's side together with those that the sequence has for it
+unfoldable pub sideWith : Side → ℕ → List Binding → List ℕ → List ℕ
+sideWith side a [] ms = ms
+sideWith side a (b ∷ s) ms = sideWith side a s (cond (eqb (b .activity) a) (joined (setFor side b) ms) ms)
+
+-- no side would exceed 16 sets
+pub record Fits (net : Net) (s : List Binding) : Type 0 where
+  pub at-most : (side : Side) (a : ℕ) → a < activities → length (sideWith side a s (setsOn net side a)) ≤ sets
+
+-- ---- what the code that gains answers
+
+-- how many sets a put adds, and 2 where it is refused
+unfoldable pub addedBy : Says → ℕ
+addedBy says = cond (says .ok) (says .value) 2
+
+pub record SetGained (masks lengths : List ℕ) (empty a m r : ℕ) (masks′ lengths′ : List ℕ) : Type 0 where
+  pub adds : r ≡ addedBy (sideSays masks lengths empty a m)
+  pub masks-are : masks′ ≡ putMasks masks lengths empty a m
+  pub lengths-are : lengths′ ≡ putLengths masks lengths empty a m
+
+-- m is a set that the sequence has for activity a's side of a kind
+pub record SetOf (side : Side) (s : List Binding) (a m : ℕ) : Type 0 where
+  pub position : ℕ
+  pub inside : position < length s
+  pub activity-is : at s position .activity ≡ a
+  pub set-is : setFor side (at s position) ≡ m

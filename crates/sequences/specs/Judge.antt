@@ -1,0 +1,79 @@
+-- Judge (01, "Net check and judge"): refusals 2, 3, 4, 6, 7, 8, 10, 11 in this order.
+use Prim.Native.Nat.{ℕ, min, _≤_}
+use mathlib.Core.Path.{_≡_}
+use mathlib.Core.Bool.{Bool, cond, _&&_}
+use mathlib.Core.List.{List}
+use lib.Dec.{eqb}
+use lib.ListN.{length}
+use Rattle.obligations.specs.Tests.{firstFailing}
+use Rattle.obligations.specs.Trace.{shaped}
+use Rattle.obligations.specs.State.{nothing, allZero}
+use Rattle.obligations.specs.Sequence.{Binding, bindings, at, ψ, firstImpossible}
+use Rattle.net.specs.Lists.{listed}
+use Rattle.net.specs.Refusals.{Says, accepted, refused, disorderly, on-no-walk, wrong-ends, missing-set, not-possible, left-over}
+use Rattle.net.specs.Sides.{setsOn}
+use Rattle.net.specs.Orderly.{orderly}
+use Rattle.net.specs.declared.Net.{Net}
+use Rattle.net.specs.declared.Side.{Side}
+use Rattle.net.specs.declared.Side.the-variants.{Input, Output}
+use Rattle.walks.specs.Check.{lost, lowest}
+use Rattle.sequences.specs.Refusing.{unless, noneAt}
+use Rattle.sequences.specs.Limits.{withinLimits}
+use Rattle.sequences.specs.Run.{largestTotal, outputSizes}
+use Rattle.sequences.specs.Gain.{setFor}
+use Rattle.sequences.specs.declared.JudgeAnswer.{JudgeAnswer}
+use Rattle.sequences.specs.declared.JudgeAnswer.the-variants.{Judged, Refused}
+
+-- what each answer says; the peak is left free, within bounds, and isn't part of it
+abbrev pub judgeSaid : JudgeAnswer → Says
+judgeSaid (Judged peak) = accepted 0
+judgeSaid (Refused n p) = refused n p
+
+-- the set that the binding after i others has for a kind of side is on its activity's side
+unfoldable pub onSideAt : Net → Side → List Binding → ℕ → Bool
+onSideAt net side s i = listed (setFor side (at s i)) (setsOn net side (at s i .activity))
+
+-- the first position whose X or Y isn't in the net, or 0
+unfoldable pub firstMissing : Net → List Binding → ℕ
+firstMissing net s = firstFailing (length s) (λ i. onSideAt net Input s i && onSideAt net Output s i)
+
+-- the rest of a chain if every activity of the net is on a walk, else refusal 6 with the lowest that isn't
+unfoldable pub onWalks : Net → Says → Says
+onWalks net rest = cond (eqb (lost net) 0) rest (refused on-no-walk (lowest (lost net)))
+
+-- refusals 10 and 11
+unfoldable pub runSays : List Binding → Says
+runSays s = noneAt (firstImpossible s) not-possible (unless (allZero (ψ s)) left-over (accepted 0))
+
+-- refusals 6, 7 and 8, then those, of a sequence within the limits
+unfoldable pub judgePositions : Net → List Binding → Says
+judgePositions net s =
+    onWalks net
+    (unless (shaped (net .start) (net .end) (length s) (λ i. at s i .activity)) wrong-ends
+    (noneAt (firstMissing net s) missing-set
+    (runSays s)))
+
+-- refusals 2, 3 and 4, then those
+unfoldable pub judgeSays : Net → List ℕ → Says
+judgeSays net ws = unless (orderly net) disorderly (withinLimits ws (judgePositions net (bindings ws)))
+
+-- the peak's bounds: the largest total of counts after any position, and the sum of the sizes of all Y
+pub record PeakOf (s : List Binding) (r : JudgeAnswer) : Type 0 where
+  pub at-least : (peak : ℕ) → r ≡ Judged peak → largestTotal nothing s ≤ peak
+  pub at-most : (peak : ℕ) → r ≡ Judged peak → peak ≤ outputSizes s
+
+pub record JudgeDone (net : Net) (ws : List ℕ) (r : JudgeAnswer) : Type 0 where
+  pub says : judgeSaid r ≡ judgeSays net ws
+  pub peak-of : PeakOf (bindings ws) r
+
+pub record PositionsJudged (net : Net) (s : List Binding) (r : JudgeAnswer) : Type 0 where
+  pub says : judgeSaid r ≡ judgePositions net s
+  pub peak-of : PeakOf s r
+
+pub record RunJudged (s : List Binding) (r : JudgeAnswer) : Type 0 where
+  pub says : judgeSaid r ≡ runSays s
+  pub peak-of : PeakOf s r
+
+-- the earlier of two positions, where 0 is none
+unfoldable pub earlier : ℕ → ℕ → ℕ
+earlier p q = cond (eqb p 0) q (cond (eqb q 0) p (min p q))

@@ -1,0 +1,73 @@
+-- Learn (01, "Learning and containment"): refusals 2, 3, 4, 7, 9, 10, 11, 12 in this order.
+use Prim.Native.Nat.{ℕ, _+_, _-_}
+use mathlib.Core.Path.{_≡_}
+use mathlib.Core.Bool.{Bool, cond, _&&_, Bool·beq}
+use mathlib.Core.List.{List}
+use lib.Dec.{eqb}
+use lib.ListN.{length}
+use Rattle.obligations.specs.Tests.{firstFailing}
+use Rattle.obligations.specs.Trace.{shaped}
+use Rattle.obligations.specs.State.{allZero}
+use Rattle.obligations.specs.Sequence.{Binding, bindings, at, ψ, firstImpossible}
+use Rattle.net.specs.Refusals.{Says, accepted, refused, disorderly, wrong-ends, wrongly-empty, not-possible, left-over, full-side}
+use Rattle.net.specs.Sides.{netSize}
+use Rattle.net.specs.Orderly.{orderly}
+use Rattle.net.specs.declared.Net.{Net}
+use Rattle.sequences.specs.Refusing.{unless, noneAt}
+use Rattle.sequences.specs.Limits.{withinLimits}
+use Rattle.sequences.specs.Gain.{gained, fits}
+use Rattle.sequences.specs.declared.LearnAnswer.{LearnAnswer}
+use Rattle.sequences.specs.declared.LearnAnswer.the-variants.{Learned, Refused}
+use Rattle.sequences.specs.declared.LearnResult.{LearnResult}
+
+-- what each answer of learn and follow says: an accepted one's value is the number of new sets
+abbrev pub learnSaid : LearnAnswer → Says
+learnSaid (Learned new) = accepted new
+learnSaid (Refused n p) = refused n p
+
+-- X is empty at the first position only and Y at the last only: the first position where that fails, or 0
+unfoldable pub emptyAgree : List Binding → ℕ → Bool
+emptyAgree s i = Bool·beq (eqb (at s i .input) 0) (eqb i 0) && Bool·beq (eqb (at s i .output) 0) (eqb (i + 1) (length s))
+
+unfoldable pub firstWronglyEmpty : List Binding → ℕ
+firstWronglyEmpty s = firstFailing (length s) (emptyAgree s)
+
+-- how many sets a net gains by a sequence: the growth of its own lists
+abbrev pub newSets : Net → List Binding → ℕ
+newSets net s = netSize (gained net s) - netSize net
+
+-- refusal 12 alone, for a sequence that no other refusal holds of
+pub record GainDone (net : Net) (s : List Binding) (r : LearnResult) : Type 0 where
+  pub says : learnSaid (r .answer) ≡ unless (fits net s) full-side (accepted (newSets net s))
+  pub gives : r .net ≡ cond (fits net s) (gained net s) net
+
+-- a refused call: the refusal's number and place, and the net as it was given
+pub record RefusedWith (net : Net) (number place : ℕ) (r : LearnResult) : Type 0 where
+  pub says : learnSaid (r .answer) ≡ refused number place
+  pub gives : r .net ≡ net
+
+-- refusals 7, 9, 10, 11 and 12, of a sequence within the limits
+unfoldable pub learnPositions : Net → List Binding → Says
+learnPositions net s =
+    unless (shaped (net .start) (net .end) (length s) (λ i. at s i .activity)) wrong-ends
+    (noneAt (firstWronglyEmpty s) wrongly-empty
+    (noneAt (firstImpossible s) not-possible
+    (unless (allZero (ψ s)) left-over
+    (unless (fits net s) full-side
+    (accepted (newSets net s))))))
+
+-- refusals 2, 3 and 4, then those
+unfoldable pub learnSays : Net → List ℕ → Says
+learnSays net ws = unless (orderly net) disorderly (withinLimits ws (learnPositions net (bindings ws)))
+
+-- the net that learn returns: with the sequence's sets if it was accepted, else the very net given
+unfoldable pub learnGives : Net → List ℕ → Net
+learnGives net ws = cond (learnSays net ws .ok) (gained net (bindings ws)) net
+
+pub record PositionsDone (net : Net) (s : List Binding) (r : LearnResult) : Type 0 where
+  pub says : learnSaid (r .answer) ≡ learnPositions net s
+  pub gives : r .net ≡ cond (learnPositions net s .ok) (gained net s) net
+
+pub record LearnDone (net : Net) (ws : List ℕ) (r : LearnResult) : Type 0 where
+  pub says : learnSaid (r .answer) ≡ learnSays net ws
+  pub gives : r .net ≡ learnGives net ws
