@@ -184,3 +184,29 @@ zeros-drop l i h = at-zeros (drop (i + 1) l) (λ j k. getD-drop (i + 1) l j 0 �
   where
     moved : (j : ℕ) → getD l (i + 1 + j) 0 ≡ getD (drop i l) (1 + j) 0
     moved j = let e : i + 1 + j ≡ i + (1 + j) = omega arith in rw e (sym (getD-drop i l (1 + j) 0))
+
+-- ---- elements, from the first on
+
+pub listed-first : (x : ℕ) (xs : List ℕ) → listed x (x ∷ xs) ≡ true
+unfolding listed
+listed-first x xs = rw (eq-eqb x x refl)
+
+pub listed-later : (m x : ℕ) (xs : List ℕ) → listed m xs ≡ true → listed m (x ∷ xs) ≡ true
+unfolding listed
+listed-later m x xs h = go (eqb x m)
+  where
+    go : (t : Bool) → (t || listed m xs) ≡ true
+    go true = refl
+    go false = h
+
+pub listed-cases : (m x : ℕ) (xs : List ℕ) → listed m (x ∷ xs) ≡ true → (m ≡ x) ⊎ (listed m xs ≡ true)
+unfolding listed
+listed-cases m x xs h = go (eqb x m) refl h
+  where
+    go : (t : Bool) → eqb x m ≡ t → (t || listed m xs) ≡ true → (m ≡ x) ⊎ (listed m xs ≡ true)
+    go true e k = inl (sym (eqb-true x m e))
+    go false e k = inr k
+
+pub listed-none : (m : ℕ) → listed m [] ≡ true → ⊥
+unfolding listed
+listed-none m h = false-not-true refl h

@@ -3,7 +3,7 @@
 use Prim.Native.Nat.{ℕ, zero, suc, _+_, _*_, _^_, _<_}
 use mathlib.Core.Path.{_≡_, refl, ap, subst}
 use mathlib.Core.Logic.{⊎-elim, _↔_}
-use mathlib.Core.Bool.{true}
+use mathlib.Core.Bool.{true, _&&_}
 use mathlib.Core.List.{List, [], _∷_, _++_}
 use native.Mathlib.Numerals.{add-one}
 use native.Mathlib.Omega.{arith}
@@ -23,6 +23,14 @@ pub bindings-words : (s : List Binding) → bindings (words s) ≡ s
 unfolding bindings words
 bindings-words [] = refl
 bindings-words (b ∷ s) = ap (λ (t : List Binding). b ∷ t) (bindings-words s)
+
+pub words-nil : words [] ≡ []
+unfolding words
+words-nil = refl
+
+pub words-cons : (b : Binding) (s : List Binding) → words (b ∷ s) ≡ b .activity ∷ b .input ∷ b .output ∷ words s
+unfolding words
+words-cons b s = refl
 
 pub length-words : (s : List Binding) → length (words s) ≡ 3 * length s
 unfolding words
@@ -133,6 +141,15 @@ first-impossible s m i = (after-others, back)
         })
 
 -- ---- completing, said of every position and of the last state
+
+pub completes-nil : (d : List ℕ) → completes d [] ≡ allZero d
+unfolding completes
+completes-nil d = refl
+
+pub completes-cons : (d : List ℕ) (b : Binding) (s : List Binding)
+    → completes d (b ∷ s) ≡ possible d (b .activity) (b .input) && completes (after d (b .activity) (b .input) (b .output)) s
+unfolding completes
+completes-cons d b s = refl
 
 -- from the state d on, each binding is possible after those before it
 abbrev pub EachFrom : List ℕ → List Binding → Type 0

@@ -90,6 +90,11 @@ unadded-added d a y =
     let l : j < length d = omega (arith, length-unadded (added d a y) a y, length-added d a y) in
     omega (arith, unadded-at (added d a y) a y j, added-at d a y j l))
 
+-- a step takes for its input set and then adds for its output set
+pub after-added : (d : List ℕ) (a x y : ℕ) → after d a x y ≡ added (taken d a x) a y
+unfolding after
+after-added d a x y = refl
+
 -- a step by its answer
 pub stepped-possible : {r : Bool} (d : List ℕ) (a x y : ℕ) → r ≡ true → stepped r d a x y ≡ after d a x y
 unfolding stepped

@@ -1,0 +1,176 @@
+// The search that goes back, over lent arrays. The state is changed in place: one function takes for an input set, the
+// other adds for an output set, and each undoes its half of the step when the call behind it has returned. The buffer is
+// written on the way back from a sequence that was found, and at no other time.
+
+use crate::Outcome;
+use net::SETS;
+use obligations::state;
+ghost use mathlib.Core.Path.{_≡_};
+ghost use Prim.Native.Nat.{_+_, _*_, _<_, _≤_};
+ghost use lib.ListN.{length, getD, set};
+ghost use Rattle.obligations.specs.Limits.{activities, pairs, positions};
+ghost use Rattle.obligations.specs.State.{allZero, State};
+ghost use Rattle.net.specs.Limits.{sets, places};
+ghost use Rattle.net.specs.Sides.{Sides};
+ghost use Rattle.search.specs.Search.{later, atEnd};
+ghost use Rattle.search.specs.Trace.{TraceFits};
+ghost use Rattle.search.specs.Replay.{endSays};
+ghost use Rattle.search.specs.Backtrack.{searchLent, searchTaken, outcomeSaid, Searched};
+
+// The search from position `at` on, in the state `due`, with `trials` trials made before: the input sets in their order.
+// An input set that isn't possible fails with every output set, so these pairs are counted at once.
+pub fn search_inputs<'a>(
+    inputs: &'a [u32; 512],
+    input_len: &'a [u32; 32],
+    outputs: &'a [u32; 512],
+    output_len: &'a [u32; 32],
+    trace: &[u32],
+    at: usize,
+    budget: u64,
+    trials: u64,
+    due: &mut [u8; 1024],
+    out: &mut [u32],
+) -> Outcome
+    requires { ⌜ Sides (now inputs) (now «input_len») × Sides (now outputs) (now «output_len») ⌝ }
+    requires { ⌜ TraceFits (now trace) (now out) ⌝ }
+    requires { ⌜ (at ≤ length (now trace)) × (trials ≤ budget) × State at (now due) ⌝ }
+    ensures { λ r. ⌜ Searched budget (later trials (searchLent (now (inputs .entry)) (now («input_len» .entry)) (now (outputs .entry)) (now («output_len» .entry)) (now (trace .entry)) at (now (due .entry)))) (3 * at) r (now (due .entry)) (now (due .exit)) (now (out .entry)) (now (out .exit)) ⌝ }
+{
+    if at == trace.len() {
+        return at_end(due, trials);
+    }
+    let a = trace[at];
+    let n = side_len(input_len, a);
+    let width = side_len(output_len, a) as u64;
+    let mut count = trials;
+    let mut i: u32 = 0;
+    while i < n {
+        let x = set_at(inputs, a, i);
+        if state::is_possible(due, a, x) {
+            state::take(due, a, x);
+            let tried = search_outputs(
+                inputs,
+                input_len,
+                outputs,
+                output_len,
+                trace,
+                at,
+                x,
+                budget,
+                count,
+                due,
+                out,
+            );
+            state::undo_take(due, a, x);
+            let Outcome::Failed { trials: k } = tried else {
+                return tried;
+            };
+            count = k;
+        } else {
+            if budget - count < width {
+                return Outcome::Spent { trials: budget };
+            }
+            count += width;
+        }
+        i += 1;
+    }
+    Outcome::Failed { trials: count }
+}
+
+// The search from position `at` on with the input set x, for which `due` has been lowered already: the output sets in
+// their order.
+fn search_outputs<'a>(
+    inputs: &'a [u32; 512],
+    input_len: &'a [u32; 32],
+    outputs: &'a [u32; 512],
+    output_len: &'a [u32; 32],
+    trace: &[u32],
+    at: usize,
+    x: u32,
+    budget: u64,
+    trials: u64,
+    due: &mut [u8; 1024],
+    out: &mut [u32],
+) -> Outcome
+    requires { ⌜ Sides (now inputs) (now «input_len») × Sides (now outputs) (now «output_len») ⌝ }
+    requires { ⌜ TraceFits (now trace) (now out) ⌝ }
+    requires { ⌜ (at < length (now trace)) × (trials ≤ budget) × State at (now due) ⌝ }
+    ensures { λ r. ⌜ Searched budget (later trials (searchTaken (now (inputs .entry)) (now («input_len» .entry)) (now (outputs .entry)) (now («output_len» .entry)) (now (trace .entry)) at x (now (due .entry)))) (3 * at) r (now (due .entry)) (now (due .exit)) (now (out .entry)) (now (out .exit)) ⌝ }
+{
+    let a = trace[at];
+    let m = side_len(output_len, a);
+    let mut count = trials;
+    let mut j: u32 = 0;
+    while j < m {
+        if count == budget {
+            return Outcome::Spent { trials: budget };
+        }
+        let y = set_at(outputs, a, j);
+        state::add(due, a, y);
+        let next = search_inputs(
+            inputs,
+            input_len,
+            outputs,
+            output_len,
+            trace,
+            at + 1,
+            budget,
+            count + 1,
+            due,
+            out,
+        );
+        state::undo_add(due, a, y);
+        match next {
+            Outcome::Failed { trials: k } => {
+                count = k;
+            }
+            Outcome::Found { trials: _ } => {
+                write(out, at, a, x, y);
+                return next;
+            }
+            Outcome::Spent { trials: _ } => {
+                return next;
+            }
+        }
+        j += 1;
+    }
+    Outcome::Failed { trials: count }
+}
+
+// Past the last position: found if nothing is due any more.
+fn at_end(due: &[u8; 1024], trials: u64) -> Outcome
+    requires { ⌜ length (now due) ≡ pairs ⌝ }
+    ensures { λ r. ⌜ outcomeSaid r ≡ endSays (later trials (atEnd (allZero (now (due .entry))))) ⌝ }
+{
+    if state::is_zero(due) {
+        Outcome::Found { trials: trials }
+    } else {
+        Outcome::Failed { trials: trials }
+    }
+}
+
+// How many sets are on activity a's side.
+fn side_len(lengths: &[u32; 32], a: u32) -> u32
+    requires { ⌜ (a < activities) × (length (now lengths) ≡ activities) ⌝ }
+    ensures { λ r. ⌜ r ≡ getD (now (lengths .entry)) a 0 ⌝ }
+{
+    lengths[a as usize]
+}
+
+// The set with k others before it on activity a's side.
+fn set_at(masks: &[u32; 512], a: u32, k: u32) -> u32
+    requires { ⌜ (a < activities) × (k < sets) × (length (now masks) ≡ places) ⌝ }
+    ensures { λ r. ⌜ r ≡ getD (now (masks .entry)) (sets * a + k) 0 ⌝ }
+{
+    masks[(SETS * a + k) as usize]
+}
+
+// Writes the three words of position `at`.
+fn write(out: &mut [u32], at: usize, a: u32, x: u32, y: u32)
+    requires { ⌜ (at < positions) × (3 * at + 3 ≤ length (now out)) ⌝ }
+    ensures { λ _. ⌜ now (out .exit) ≡ set (set (set (now (out .entry)) (3 * at) a) (3 * at + 1) x) (3 * at + 2) y ⌝ }
+{
+    out[3 * at] = a;
+    out[3 * at + 1] = x;
+    out[3 * at + 2] = y;
+}

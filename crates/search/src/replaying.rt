@@ -1,0 +1,126 @@
+// Replay (paper 01, "Replay"), as the call that takes every net and trace, and for a net that has been checked.
+
+use crate::Outcome;
+use crate::ReplayAnswer;
+use crate::backtrack;
+use net::Net;
+use net::is_orderly;
+use net::refusal;
+use obligations::POSITIONS;
+use obligations::trace;
+ghost use mathlib.Core.Path.{_≡_};
+ghost use Rattle.net.specs.Sides.{Sides};
+ghost use Rattle.search.specs.Trace.{fits, TraceFits};
+ghost use Rattle.search.specs.Replay.{replaySaid, CheckedDone, ReplayDone};
+ghost use Rattle.search.specs.Backtrack.{netOf, outcomeSaid};
+
+// The replay of a trace in a net. Found: the sequence is at the buffer's front. No other answer changes the buffer.
+pub fn replay(net: Net, trace: &[u32], budget: u64, out: &mut [u32]) -> ReplayAnswer
+    ensures { λ r. ⌜ ReplayDone net (now (trace .entry)) budget r (now (out .entry)) (now (out .exit)) ⌝ }
+{
+    if !is_orderly(net) {
+        return ReplayAnswer::Refused {
+            number: refusal::DISORDERLY,
+            place: 0,
+        };
+    }
+    if !fits(trace.len(), out.len()) {
+        return ReplayAnswer::Refused {
+            number: refusal::TOO_LONG,
+            place: 0,
+        };
+    }
+    let place = trace::first_no_activity(trace, 1, trace.len());
+    if place != 0 {
+        return ReplayAnswer::Refused {
+            number: refusal::NO_ACTIVITY,
+            place: place,
+        };
+    }
+    let walked = walks::walk_all(net);
+    let lost = walked.lost;
+    if lost != 0 {
+        return ReplayAnswer::Refused {
+            number: refusal::ON_NO_WALK,
+            place: u32::trailing_zeros(lost),
+        };
+    }
+    replay_checked(net, trace, budget, out)
+}
+
+// Whether a trace of n entries isn't too long, and a buffer of `room` words has three for each position.
+fn fits(n: usize, room: usize) -> bool
+    ensures { λ r. ⌜ r ≡ fits n room ⌝ }
+{
+    if POSITIONS < n {
+        return false;
+    }
+    3 * n <= room
+}
+
+// The replay of a trace in a net that has been checked.
+pub fn replay_checked(net: Net, trace: &[u32], budget: u64, out: &mut [u32]) -> ReplayAnswer
+    requires { ⌜ Sides (net .inputs) (net .«input_len») × Sides (net .outputs) (net .«output_len») ⌝ }
+    requires { ⌜ TraceFits (now trace) (now out) ⌝ }
+    ensures { λ r. ⌜ CheckedDone net (now (trace .entry)) budget r (now (out .entry)) (now (out .exit)) ⌝ }
+{
+    let start = net.start;
+    let end = net.end;
+    replay_lent(
+        start,
+        end,
+        &net.inputs,
+        &net.input_len,
+        &net.outputs,
+        &net.output_len,
+        trace,
+        budget,
+        out,
+    )
+}
+
+// The same, with the net's arrays lent, so that nothing is copied for a further trace.
+pub fn replay_lent<'a>(
+    start: u32,
+    end: u32,
+    inputs: &'a [u32; 512],
+    input_len: &'a [u32; 32],
+    outputs: &'a [u32; 512],
+    output_len: &'a [u32; 32],
+    trace: &[u32],
+    budget: u64,
+    out: &mut [u32],
+) -> ReplayAnswer
+    requires { ⌜ Sides (now inputs) (now «input_len») × Sides (now outputs) (now «output_len») ⌝ }
+    requires { ⌜ TraceFits (now trace) (now out) ⌝ }
+    ensures { λ r. ⌜ CheckedDone (netOf start end (now (inputs .entry)) (now («input_len» .entry)) (now (outputs .entry)) (now («output_len» .entry))) (now (trace .entry)) budget r (now (out .entry)) (now (out .exit)) ⌝ }
+{
+    if !trace::is_shaped(trace, 1, trace.len(), start, end) {
+        return ReplayAnswer::None { trials: 0 };
+    }
+    let mut due = [0u8; 1024];
+    let outcome = backtrack::search_inputs(
+        inputs,
+        input_len,
+        outputs,
+        output_len,
+        trace,
+        0,
+        budget,
+        0,
+        &mut due,
+        out,
+    );
+    answered(outcome)
+}
+
+// What the search's outcome is as an answer.
+fn answered(outcome: Outcome) -> ReplayAnswer
+    ensures { λ r. ⌜ replaySaid r ≡ outcomeSaid outcome ⌝ }
+{
+    match outcome {
+        Outcome::Found { trials: k } => ReplayAnswer::Found { trials: k },
+        Outcome::Failed { trials: k } => ReplayAnswer::None { trials: k },
+        Outcome::Spent { trials: k } => ReplayAnswer::Spent { trials: k },
+    }
+}
