@@ -1,0 +1,8 @@
+-- The laws of the definitions in specs/, by concept.
+pub mod EntryLaws
+pub mod RowLaws
+pub mod AnswerLaws
+pub mod FileLaws
+pub mod CursorLaws
+pub mod Theorems
+pub mod Examples

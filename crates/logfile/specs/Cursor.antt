@@ -1,0 +1,55 @@
+-- Going on in a log row after row: a cursor is where a line starts and that line's number. Line 1 is the header.
+use Prim.Native.Nat.{ℕ, suc, _+_, min, max}
+use mathlib.Core.Path.{_≡_}
+use mathlib.Core.Bool.{cond}
+use mathlib.Core.List.{List}
+use lib.Dec.{ltb}
+use lib.ListN.{length, drop}
+use lib.Seq.{slice}
+use Rattle.text.specs.Bytes.{sameBytes}
+use Rattle.text.specs.Lines.{lines, lineEnd, nextLine}
+use Rattle.net.specs.Refusals.{too-long}
+use Rattle.logfile.specs.LogFile.{Reading, row, end, fault, logHeader, rowAfter, afterHeader, fits, RowRead}
+use Rattle.logfile.specs.declared.Begun.{Begun}
+use Rattle.logfile.specs.declared.Begun.the-variants.{At, Differs}
+use Rattle.logfile.specs.declared.Cursor.{Cursor}
+use Rattle.logfile.specs.declared.NextRow.{NextRow}
+
+abbrev pub start : Cursor
+start = record { at = 0; line = 1 }
+
+-- the row with k rows before it, in lines of which the first is line n
+unfoldable pub fromLine : ℕ → ℕ → List (List ℕ) → Reading
+fromLine n k ls = cond (ltb 1 n) (rowAfter n k ls) (afterHeader k ls)
+
+-- where a cursor stands: one past the text's end stands at its end
+abbrev pub within : List ℕ → Cursor → ℕ
+within text c = min (c .at) (length text)
+
+-- the row at a cursor
+unfoldable pub readNext : List ℕ → Cursor → ℕ → Reading
+readNext text c room = cond (fits text room) (fromLine (c .line) 0 (lines (drop (within text c) text))) (fault too-long 0)
+
+-- where the first row's line starts, and its number, for a reader at line n, which starts at i: past the header, if that
+-- is the line
+unfoldable pub begun : List ℕ → ℕ → ℕ → Begun
+begun text i n = cond (ltb 1 n) (At i n) (cond (sameBytes (slice i (lineEnd text i) text) logHeader) (At (nextLine text (lineEnd text i)) 2) Differs)
+
+-- where the row at a cursor starts: past the header, if that is the cursor's line
+unfoldable pub rowStart : List ℕ → Cursor → ℕ
+rowStart text c = cond (ltb 1 (c .line)) (within text c) (nextLine text (lineEnd text (within text c)))
+
+-- the cursor after what was read: on the line after a row, else where it was
+abbrev pub cursorAfter : List ℕ → Cursor → Reading → Cursor
+cursorAfter text c (row s t) = record { at = nextLine text (lineEnd text (rowStart text c)); line = max 2 (c .line) + 1 }
+cursorAfter text c end = c
+cursorAfter text c (fault n p) = c
+
+pub record NextRead (text : List ℕ) (c : Cursor) (out₀ : List ℕ) (r : NextRow) (out : List ℕ) : Type 0 where
+  pub reads : RowRead (readNext text c (length out₀)) out₀ (r .answer) out
+  pub goes-on : r .cursor ≡ cursorAfter text c (readNext text c (length out₀))
+
+-- c is the cursor after k rows were read one after the other from the start
+pub data Reached (text : List ℕ) (room : ℕ) : ℕ → Cursor → Type 0 where
+  at-start : Reached text room 0 start
+  one-more : {k : ℕ} {c : Cursor} (s : ℕ) (t : List ℕ) → Reached text room k c → readNext text c room ≡ row s t → Reached text room (suc k) (cursorAfter text c (row s t))

@@ -1,0 +1,32 @@
+-- What is proved of the definitions. The proofs are in proofs/Theorems.antt.
+use Prim.Native.Nat.{ℕ, suc, _≤_, _<_}
+use mathlib.Core.Path.{_≡_}
+use mathlib.Core.List.{List, List·Memᴰ}
+use lib.ListN.{length}
+use Rattle.obligations.specs.Limits.{activities, positions}
+use Rattle.logfile.specs.Limits.{logRows, mostSessions}
+use Rattle.logfile.specs.LogFile.{row, readRow}
+use Rattle.logfile.specs.Cursor.{readNext, Reached}
+use Rattle.logfile.specs.declared.Cursor.{Cursor}
+
+-- whatever is read as row r is a trace of at most 64 activities, of 1 to 1,000,000 sessions, and r is at most 1,000
+pub record Given (r s : ℕ) (t : List ℕ) : Type 0 where
+  pub few-rows : r ≤ logRows
+  pub some-sessions : 1 ≤ s
+  pub few-sessions : s ≤ mostSessions
+  pub few-entries : length t ≤ positions
+  pub activities-only : (k : ℕ) → List·Memᴰ k t → k < activities
+
+abbrev pub RowIsTrace : Type 0
+RowIsTrace = (text : List ℕ) (r room s : ℕ) (t : List ℕ) → readRow text r room ≡ row s t → Given r s t
+
+-- after k rows that were read one after the other, the cursor reads row k + 1: so reading on until something else than a row
+-- is said reads rows 1, 2 and so on
+abbrev pub CursorReadsNext : Type 0
+CursorReadsNext = (text : List ℕ) (room k : ℕ) (c : Cursor) → Reached text room k c → readNext text c room ≡ readRow text (suc k) room
+
+-- what is said of the first row that isn't given is said of every row after it, so that nothing is missed by stopping there
+abbrev pub LaterSame : Type 0
+LaterSame =
+    (text : List ℕ) (r q room : ℕ) → 1 ≤ r → r ≤ q → ((s : ℕ) (t : List ℕ) → readRow text r room ≡ row s t → ⊥)
+    → readRow text q room ≡ readRow text r room

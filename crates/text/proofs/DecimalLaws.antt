@@ -1,0 +1,117 @@
+-- Laws of decimal numbers: what a reader's answer says of its field, and that what is printed is all digits, well led, and
+-- read as the number that was printed. Assumes nothing.
+use Prim.Native.Nat.{ℕ, zero, suc, _+_, _*_, _-_, _≤_, _<_, _^_, _%_, _/_}
+use mathlib.Core.Path.{_≡_, refl, _∙_}
+use mathlib.Core.Logic.{⊎-elim}
+use mathlib.Core.Bool.{Bool, true, false, _&&_, cond}
+use mathlib.Core.List.{List, [], _∷_, _++_, List·Memᴰ, List·Memᴰ·cases-cons, List·Memᴰ·not-nil}
+use native.Mathlib.Nat.{pow-suc}
+use native.Mathlib.Omega.{arith}
+use borrow.Author.Tests.{le-leb, ne-eqb, leb-true, ltb-true, ltb-false}
+use lib.Dec.{leb, ltb}
+use Rattle.obligations.proofs.BoolLaws.{and-left, and-right}
+use Rattle.text.specs.Bytes.{count}
+use Rattle.text.specs.Decimal.{isDigit, allDigits, valueFrom, value, wellLed, isNumber, parseNumber, allNumbers, values, digit, decimal, printNumber}
+use Rattle.text.specs.declared.decimal.Number.the-variants.{Value, Refused}
+
+-- ---- what an answer says of its field
+
+pub number-value : (limit : ℕ) (s : List ℕ) (k : ℕ) → parseNumber limit s ≡ Value k → (isNumber limit s ≡ true) × (value s ≡ k)
+unfolding parseNumber
+number-value limit s k = go (isNumber limit s)
+  where
+    go : (t : Bool) → cond t (Value (value s)) Refused ≡ Value k → (t ≡ true) × (value s ≡ k)
+    go true q = (refl, cc)
+    go false q = let z : _≡_ {A = ℕ} 0 1 = cc in absurd (omega arith)
+
+pub number-refused : (limit : ℕ) (s : List ℕ) → parseNumber limit s ≡ Refused → isNumber limit s ≡ false
+unfolding parseNumber
+number-refused limit s = go (isNumber limit s)
+  where
+    go : (t : Bool) → cond t (Value (value s)) Refused ≡ Refused → t ≡ false
+    go true q = let z : _≡_ {A = ℕ} 0 1 = cc in absurd (omega arith)
+    go false q = refl
+
+pub number-most : (limit : ℕ) (s : List ℕ) → isNumber limit s ≡ true → value s ≤ limit
+unfolding isNumber
+number-most limit s q = leb-true (value s) limit (and-right (allDigits s) (leb (value s) limit) (and-right (wellLed s) (allDigits s && leb (value s) limit) q))
+
+pub parse-most : (limit : ℕ) (s : List ℕ) (k : ℕ) → parseNumber limit s ≡ Value k → k ≤ limit
+parse-most limit s k q = let v = number-value limit s k q in omega (arith, number-most limit s (v .0), v .1)
+
+pub values-most : (limit : ℕ) (fs : List (List ℕ)) → allNumbers limit fs ≡ true → (k : ℕ) → List·Memᴰ k (values fs) → k ≤ limit
+values-most limit [] q k m = absurd (List·Memᴰ·not-nil m)
+values-most limit (f ∷ fs) q k m =
+    ⊎-elim (λ e. omega (arith, number-most limit f (and-left (isNumber limit f) (allNumbers limit fs) q))) (λ t. values-most limit fs (and-right (isNumber limit f) (allNumbers limit fs) q) k t)
+    (List·Memᴰ·cases-cons m)
+
+-- ---- what was printed is read
+
+digit-ok : (n : ℕ) → isDigit (digit n) ≡ true
+digit-ok n = rw (le-leb 48 (48 + n % 10) (omega arith), le-leb (48 + n % 10) 57 (omega arith))
+
+all-append : (s t : List ℕ) → allDigits s ≡ true → allDigits t ≡ true → allDigits (s ++ t) ≡ true
+all-append [] t p q = q
+all-append (b ∷ s) t p q = rw (and-left (isDigit b) (allDigits s) p) (all-append s t (and-right (isDigit b) (allDigits s) p) q)
+
+decimal-digits : (f n : ℕ) → allDigits (decimal f n) ≡ true
+decimal-digits zero n = rw (digit-ok n)
+decimal-digits (suc f) n = go (ltb n 10) (decimal-digits f (n / 10))
+  where
+    one : allDigits (digit n ∷ []) ≡ true
+    one = rw (digit-ok n)
+
+    go : (t : Bool) → allDigits (decimal f (n / 10)) ≡ true → allDigits (cond t (digit n ∷ []) (decimal f (n / 10) ++ (digit n ∷ []))) ≡ true
+    go true ih = one
+    go false ih = all-append (decimal f (n / 10)) (digit n ∷ []) ih one
+
+value-snoc : (v : ℕ) (s : List ℕ) (d : ℕ) → valueFrom v (s ++ (d ∷ [])) ≡ valueFrom v s * 10 + (d - 48)
+value-snoc v [] d = refl
+value-snoc v (b ∷ s) d = value-snoc (v * 10 + (b - 48)) s d
+
+decimal-value : (f n : ℕ) → n < 10 ^ suc f → value (decimal f n) ≡ n
+decimal-value zero n h = omega arith
+decimal-value (suc f) n h = go (ltb n 10) refl (decimal-value f (n / 10) (omega (arith, pow-suc 10 (suc f))))
+  where
+    go : (t : Bool) → ltb n 10 ≡ t → value (decimal f (n / 10)) ≡ n / 10 → value (cond t (digit n ∷ []) (decimal f (n / 10) ++ (digit n ∷ []))) ≡ n
+    go true q ih = omega (arith, ltb-true n 10 q)
+    go false q ih = value-snoc 0 (decimal f (n / 10)) (digit n) ∙ rw ih (omega arith)
+
+-- the first byte is no 0, unless it is the only one
+append-led : (s : List ℕ) (d : ℕ) → wellLed s ≡ true → (value s ≡ 0 → ⊥) → wellLed (s ++ (d ∷ [])) ≡ true
+append-led [] d h z = refl
+append-led (b ∷ []) d h z = rw (ne-eqb b 48 (λ q. z (omega arith)))
+append-led (b ∷ c ∷ s) d h z = h
+
+decimal-led : (f n : ℕ) → n < 10 ^ suc f → wellLed (decimal f n) ≡ true
+decimal-led zero n h = refl
+decimal-led (suc f) n h = let u : n / 10 < 10 ^ suc f = omega (arith, pow-suc 10 (suc f)) in go (ltb n 10) refl u (decimal-led f (n / 10) u)
+  where
+    go : (t : Bool) → ltb n 10 ≡ t → n / 10 < 10 ^ suc f → wellLed (decimal f (n / 10)) ≡ true → wellLed (cond t (digit n ∷ []) (decimal f (n / 10) ++ (digit n ∷ []))) ≡ true
+    go true q u ih = refl
+    go false q u ih = append-led (decimal f (n / 10)) (digit n) ih (λ z. omega (arith, decimal-value f (n / 10) u, ltb-false n 10 q))
+
+-- a printed number is a number, and of its value
+pub print-number : (limit n : ℕ) → n ≤ limit → n < 10 ^ 20 → isNumber limit (printNumber n) ≡ true
+unfolding isNumber printNumber
+print-number limit n h u = rw (decimal-led 19 n u, decimal-digits 19 n, decimal-value 19 n u, le-leb n limit h)
+
+pub print-value : (n : ℕ) → n < 10 ^ 20 → value (printNumber n) ≡ n
+unfolding printNumber
+print-value n u = decimal-value 19 n u
+
+-- reading a printed number gives the number
+pub parse-print : (limit n : ℕ) → n ≤ limit → n < 10 ^ 20 → parseNumber limit (printNumber n) ≡ Value n
+unfolding parseNumber
+parse-print limit n h u = rw (print-number limit n h u, print-value n u)
+
+-- digits hold no byte below 48, as CR, LF, space and comma are
+digits-free : (c : ℕ) (s : List ℕ) → c < 48 → allDigits s ≡ true → count c s ≡ 0
+digits-free c [] h q = refl
+digits-free c (b ∷ s) h q =
+    let d : 48 ≤ b = leb-true 48 b (and-left (leb 48 b) (leb b 57) (and-left (isDigit b) (allDigits s) q)) in
+    rw (ne-eqb b c (λ e. omega arith)) (omega (arith, digits-free c s h (and-right (isDigit b) (allDigits s) q)))
+
+pub number-free : (c n : ℕ) → c < 48 → count c (printNumber n) ≡ 0
+unfolding printNumber
+number-free c n h = digits-free c (decimal 19 n) h (decimal-digits 19 n)

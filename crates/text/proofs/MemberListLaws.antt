@@ -1,0 +1,214 @@
+-- Laws of member lists. Reading goes field by field with the lowest member still allowed and the set so far; a set's
+-- members ascend and are activities, so that its printed list is read as the set. Assumes nothing.
+use Prim.Native.Nat.{ℕ, zero, suc, _+_, _-_, _*_, _≤_, _<_, _^_, _%_, _/_}
+use mathlib.Core.Path.{_≡_, refl, sym, _∙_}
+use mathlib.Core.Logic.{_⊎_, inl, inr, ⊎-elim}
+use mathlib.Core.Bool.{Bool, true, false, _&&_, or-true, and-false, cond}
+use mathlib.Core.List.{List, [], _∷_, map, List·Memᴰ, List·Memᴰ·head, List·Memᴰ·tail, List·Memᴰ·cases-cons, List·Memᴰ·not-nil}
+use native.Mathlib.Omega.{arith}
+use borrow.Author.Tests.{le-leb, lt-leb, eq-eqb, ne-eqb, eqb-true}
+use lib.Bits.{bitAnd}
+use lib.Count.{trailingZeros}
+use lib.Dec.{leb, eqb}
+use lib.ListN.{length, length-append}
+use lib.Seq.{slice}
+use Rattle.obligations.specs.Sets.{member, single, union, keep, membersFrom, members}
+use Rattle.obligations.proofs.BoolLaws.{false-not-true, and-left, same-test}
+use Rattle.obligations.proofs.SetLaws.{single-lt, union-lt, member-none, member-activity, member-with, set-ext}
+use Rattle.obligations.proofs.MemberLaws.{members-walk, members-are}
+use Rattle.text.specs.Bytes.{before, count}
+use Rattle.text.specs.Fields.{space, split, led, join}
+use Rattle.text.specs.Decimal.{value, isNumber, parseNumber, allNumbers, values, printNumber}
+use Rattle.text.specs.Members.{highest, ascendsFrom, withAll, areMembers, parseMembers, printMembers}
+use Rattle.text.specs.declared.decimal.Number.the-variants as number
+use Rattle.text.specs.declared.members.Members.{Members}
+use Rattle.text.specs.declared.members.Members.the-variants.{Set, Refused}
+use Rattle.text.proofs.ByteLaws.{count-append}
+use Rattle.text.proofs.FieldLaws.{part-head, part-last, part-more, split-join, length-split}
+use Rattle.text.proofs.DigitLaws.{number-below-100}
+use Rattle.text.proofs.DecimalLaws.{number-value, number-refused, values-most, number-free, print-number, print-value}
+
+-- ---- reading field by field
+
+-- fields that are members of at least low, added to a set
+abbrev pub readFields : ℕ → ℕ → List (List ℕ) → Members
+readFields low m [] = Set m
+readFields low m (f ∷ fs) = cond (isNumber highest f) (cond (leb low (value f)) (readFields (value f + 1) (union m (single (value f))) fs) Refused) Refused
+
+fields-all : (low m : ℕ) (fs : List (List ℕ)) → readFields low m fs ≡ cond (allNumbers highest fs && ascendsFrom low (values fs)) (Set (withAll m (values fs))) Refused
+fields-all low m [] = refl
+fields-all low m (f ∷ fs) = go (isNumber highest f) (leb low (value f)) (fields-all (value f + 1) (union m (single (value f))) fs)
+  where
+    go : (t l : Bool) → readFields (value f + 1) (union m (single (value f))) fs
+        ≡ cond (allNumbers highest fs && ascendsFrom (value f + 1) (values fs)) (Set (withAll (union m (single (value f))) (values fs))) Refused
+        → cond t (cond l (readFields (value f + 1) (union m (single (value f))) fs) Refused) Refused
+        ≡ cond ((t && allNumbers highest fs) && (l && ascendsFrom (value f + 1) (values fs))) (Set (withAll (union m (single (value f))) (values fs))) Refused
+    go true true ih = ih
+    go true false ih = rw (and-false (allNumbers highest fs))
+    go false l ih = refl
+
+pub members-start : (s : List ℕ) → parseMembers s ≡ readFields 0 0 (split space s)
+unfolding parseMembers areMembers
+members-start s = sym (fields-all 0 0 (split space s))
+
+-- what the first member of a list decides, where the list is s[at..e] and the member ends at j
+module _ (s : List ℕ) (at e j low m : ℕ) (h : at ≤ e) (t : e ≤ length s) (q : j ≡ at + before space (slice at e s)) where
+  pub list-refused : parseNumber highest (slice at j s) ≡ number.Refused → readFields low m (split space (slice at e s)) ≡ Refused
+  list-refused r = rw (part-head space s at e j h t q, number-refused highest (slice at j s) r)
+
+  module _ (k : ℕ) (r : parseNumber highest (slice at j s) ≡ number.Value k) where
+    pub list-low : k < low → readFields low m (split space (slice at e s)) ≡ Refused
+    list-low l = let v = number-value highest (slice at j s) k r in rw (part-head space s at e j h t q, v .0, v .1, lt-leb low k l)
+
+    pub list-last : low ≤ k → j ≡ e → readFields low m (split space (slice at e s)) ≡ Set (union m (single k))
+    list-last l u = let v = number-value highest (slice at j s) k r in rw (part-last space s at e j h t q u, v .0, v .1, le-leb low k l)
+
+    pub list-more : low ≤ k → j < e → readFields low m (split space (slice at e s)) ≡ readFields (k + 1) (union m (single k)) (split space (slice (j + 1) e s))
+    list-more l u = let v = number-value highest (slice at j s) k r in rw (part-more space s at e j h t q u, v .0, v .1, le-leb low k l)
+
+-- ---- how long a list is
+
+-- a member and its space take at most 3 bytes
+led-short : (n k m : ℕ) → k + n ≤ 32 → length (led space (map printNumber (membersFrom n k m))) ≤ 3 * n
+unfolding membersFrom keep
+led-short zero k m h = omega arith
+led-short (suc n) k m h = go (m % 2) (led-short n (suc k) (m / 2) (omega arith))
+  where
+    go : (b : ℕ) → length (led space (map printNumber (membersFrom n (suc k) (m / 2)))) ≤ 3 * n → length (led space (map printNumber (keep b k (membersFrom n (suc k) (m / 2))))) ≤ 3 * suc n
+    go zero ih = omega arith
+    go (suc b) ih = omega (arith, length-append (printNumber k) (led space (map printNumber (membersFrom n (suc k) (m / 2)))), number-below-100 k (omega arith))
+
+join-short : (c : ℕ) (ps : List (List ℕ)) → length (join c ps) ≤ length (led c ps)
+join-short c [] = omega arith
+join-short c (p ∷ ps) = omega arith
+
+pub members-short : (m : ℕ) → length (printMembers m) ≤ 96
+unfolding printMembers members
+members-short m = omega (arith, join-short space (map printNumber (membersFrom 32 0 m)), led-short 32 0 m (omega arith))
+
+-- ---- what was printed is read
+
+-- the members of a mask ascend, and are activities
+from-ascend : (n k low m : ℕ) → low ≤ k → ascendsFrom low (membersFrom n k m) ≡ true
+unfolding membersFrom keep
+from-ascend zero k low m h = refl
+from-ascend (suc n) k low m h = go (m % 2) (λ lo g. from-ascend n (suc k) lo (m / 2) g)
+  where
+    go : (b : ℕ) → ((lo : ℕ) → lo ≤ suc k → ascendsFrom lo (membersFrom n (suc k) (m / 2)) ≡ true) → ascendsFrom low (keep b k (membersFrom n (suc k) (m / 2))) ≡ true
+    go zero ih = ih low (omega arith)
+    go (suc b) ih = rw (le-leb low k h) (ih (k + 1) (omega arith))
+
+from-numbers : (n k m : ℕ) → k + n ≤ 32 → allNumbers highest (map printNumber (membersFrom n k m)) ≡ true
+unfolding membersFrom keep
+from-numbers zero k m h = refl
+from-numbers (suc n) k m h = go (m % 2) (from-numbers n (suc k) (m / 2) (omega arith))
+  where
+    go : (b : ℕ) → allNumbers highest (map printNumber (membersFrom n (suc k) (m / 2))) ≡ true → allNumbers highest (map printNumber (keep b k (membersFrom n (suc k) (m / 2)))) ≡ true
+    go zero ih = ih
+    go (suc b) ih = rw (print-number 31 k (omega arith) (omega arith)) ih
+
+from-values : (n k m : ℕ) → k + n ≤ 32 → values (map printNumber (membersFrom n k m)) ≡ membersFrom n k m
+unfolding membersFrom keep
+from-values zero k m h = refl
+from-values (suc n) k m h = go (m % 2) (from-values n (suc k) (m / 2) (omega arith))
+  where
+    go : (b : ℕ) → values (map printNumber (membersFrom n (suc k) (m / 2))) ≡ membersFrom n (suc k) (m / 2) → values (map printNumber (keep b k (membersFrom n (suc k) (m / 2)))) ≡ keep b k (membersFrom n (suc k) (m / 2))
+    go zero ih = ih
+    go (suc b) ih = rw (print-value k (omega arith), ih)
+
+-- a set with members added has those that it had and those
+all-member : (m : ℕ) (ks : List ℕ) (j : ℕ) → ((k : ℕ) → List·Memᴰ k ks → k < 32) → member (withAll m ks) j ≡ true → (member m j ≡ true) ⊎ List·Memᴰ j ks
+all-member m [] j h e = inl e
+all-member m (k ∷ ks) j h e = ⊎-elim (λ t. first (member m j) refl t) (λ t. inr (List·Memᴰ·tail t)) (all-member (union m (single k)) ks j (λ i q. h i (List·Memᴰ·tail q)) e)
+  where
+    first : (t : Bool) → member m j ≡ t → member (union m (single k)) j ≡ true → (member m j ≡ true) ⊎ List·Memᴰ j (k ∷ ks)
+    first true p q = inl p
+    first false p q =
+        let w : eqb k j ≡ true = sym (rw p at (member-with m k j (h k (List·Memᴰ·head refl)))) ∙ q in
+        inr (List·Memᴰ·head (sym (eqb-true k j w)))
+
+member-all : (m : ℕ) (ks : List ℕ) (j : ℕ) → ((k : ℕ) → List·Memᴰ k ks → k < 32) → (member m j ≡ true) ⊎ List·Memᴰ j ks → member (withAll m ks) j ≡ true
+member-all m [] j h e = ⊎-elim (λ t. t) (λ t. absurd (List·Memᴰ·not-nil t)) e
+member-all m (k ∷ ks) j h e = member-all (union m (single k)) ks j (λ i q. h i (List·Memᴰ·tail q)) (⊎-elim (λ t. inl (old t)) (λ t. ⊎-elim (λ q. inl (new q)) (λ q. inr q) (List·Memᴰ·cases-cons t)) e)
+  where
+    old : member m j ≡ true → member (union m (single k)) j ≡ true
+    old t = member-with m k j (h k (List·Memᴰ·head refl)) ∙ rw t
+
+    new : j ≡ k → member (union m (single k)) j ≡ true
+    new q = member-with m k j (h k (List·Memᴰ·head refl)) ∙ rw (eq-eqb k j (sym q)) (or-true (member m j))
+
+all-lt : (m : ℕ) (ks : List ℕ) → m < 2 ^ 32 → withAll m ks < 2 ^ 32
+all-lt m [] h = h
+all-lt m (k ∷ ks) h = all-lt (union m (single k)) ks (union-lt m (single k) h (single-lt k))
+
+-- a set is its members put together
+pub all-members : (m : ℕ) → m < 2 ^ 32 → withAll 0 (members m) ≡ m
+all-members m h = set-ext (withAll 0 (members m)) m (all-lt 0 (members m) (omega arith)) h (λ k l. same-test (member (withAll 0 (members m)) k) (member m k) (λ t. there k t) (λ t. back k t))
+  where
+    activity : (k : ℕ) → List·Memᴰ k (members m) → k < 32
+    activity k q = member-activity m k h (members-are m k h .0 q)
+
+    there : (k : ℕ) → member (withAll 0 (members m)) k ≡ true → member m k ≡ true
+    there k t = ⊎-elim (λ q. absurd (false-not-true (member-none k) q)) (λ q. members-are m k h .0 q) (all-member 0 (members m) k activity t)
+
+    back : (k : ℕ) → member m k ≡ true → member (withAll 0 (members m)) k ≡ true
+    back k t = member-all 0 (members m) k activity (inr (members-are m k h .1 t))
+
+-- printed members hold no byte below 48, and joined by a space none but that
+printed-free : (c : ℕ) → c < 48 → (ks : List ℕ) (q : List ℕ) → List·Memᴰ q (map printNumber ks) → count c q ≡ 0
+printed-free c h [] q m = absurd (List·Memᴰ·not-nil m)
+printed-free c h (k ∷ ks) q m = ⊎-elim (λ e. rw e (number-free c k h)) (λ t. printed-free c h ks q t) (List·Memᴰ·cases-cons m)
+
+led-free : (c : ℕ) → c < 48 → (c ≡ space → ⊥) → (ks : List ℕ) → count c (led space (map printNumber ks)) ≡ 0
+led-free c h n [] = refl
+led-free c h n (k ∷ ks) = rw (ne-eqb space c (λ e. n (sym e))) (omega (arith, count-append c (printNumber k) (led space (map printNumber ks)), number-free c k h, led-free c h n ks))
+
+pub members-free : (c m : ℕ) → c < 48 → (c ≡ space → ⊥) → count c (printMembers m) ≡ 0
+unfolding printMembers
+members-free c m h n = go (members m)
+  where
+    go : (ks : List ℕ) → count c (join space (map printNumber ks)) ≡ 0
+    go [] = refl
+    go (k ∷ ks) = omega (arith, count-append c (printNumber k) (led space (map printNumber ks)), number-free c k h, led-free c h n ks)
+
+-- the fields of a printed member list
+pub split-members : (m : ℕ) → 0 < m → m < 2 ^ 32 → split space (printMembers m) ≡ map printNumber (members m)
+unfolding printMembers
+split-members m h u = rw (members-walk m h u) (split-join space (printNumber (trailingZeros 32 m)) (map printNumber (members (bitAnd m (m - 1)))) (λ q t. printed-free space (omega arith) (trailingZeros 32 m ∷ members (bitAnd m (m - 1))) q t))
+
+-- reading a set's printed member list gives the set; the empty set's is empty, which is no member list
+pub parse-print-members : (m : ℕ) → 0 < m → m < 2 ^ 32 → parseMembers (printMembers m) ≡ Set m
+unfolding parseMembers areMembers members
+parse-print-members m h u = rw (split-members m h u, numbers m, read m, ascend m, all-members m u)
+  where
+    numbers : (m : ℕ) → allNumbers highest (map printNumber (members m)) ≡ true
+    numbers m = from-numbers 32 0 m (omega arith)
+
+    read : (m : ℕ) → values (map printNumber (members m)) ≡ members m
+    read m = from-values 32 0 m (omega arith)
+
+    ascend : (m : ℕ) → ascendsFrom 0 (members m) ≡ true
+    ascend m = from-ascend 32 0 0 m (omega arith)
+
+-- ---- what is read is a set that isn't empty
+
+zero-or-some : (m : ℕ) → (m ≡ 0) ⊎ (0 < m)
+zero-or-some zero = inl refl
+zero-or-some (suc m) = inr (omega arith)
+
+pub parse-members-mask : (s : List ℕ) (m : ℕ) → parseMembers s ≡ Set m → (0 < m) × (m < 2 ^ 32)
+unfolding parseMembers areMembers
+parse-members-mask s m = go (split space s) (length-split space s)
+  where
+    some : (f : List ℕ) (fs : List (List ℕ)) → allNumbers highest (f ∷ fs) ≡ true → 0 < withAll 0 (values (f ∷ fs))
+    some f fs n = ⊎-elim (λ z. absurd (false-not-true (member-none (value f)) (rw z at (member-all 0 (values (f ∷ fs)) (value f) (λ k t. omega (arith, values-most 31 (f ∷ fs) n k t)) (inr (List·Memᴰ·head refl)))))) (λ h. h) (zero-or-some (withAll 0 (values (f ∷ fs))))
+
+    go : (fs : List (List ℕ)) → length fs ≡ suc (count space s) → cond (allNumbers highest fs && ascendsFrom 0 (values fs)) (Set (withAll 0 (values fs))) Refused ≡ Set m → (0 < m) × (m < 2 ^ 32)
+    go [] e q = absurd (omega arith)
+    go (f ∷ fs) e q = told (allNumbers highest (f ∷ fs) && ascendsFrom 0 (values (f ∷ fs))) refl q
+      where
+        told : (t : Bool) → allNumbers highest (f ∷ fs) && ascendsFrom 0 (values (f ∷ fs)) ≡ t → cond t (Set (withAll 0 (values (f ∷ fs)))) Refused ≡ Set m → (0 < m) × (m < 2 ^ 32)
+        told true p q =
+            let w : withAll 0 (values (f ∷ fs)) ≡ m = cc in
+            rw (← w) (some f fs (and-left (allNumbers highest (f ∷ fs)) (ascendsFrom 0 (values (f ∷ fs))) p), all-lt 0 (values (f ∷ fs)) (omega arith))
+        told false p q = let z : _≡_ {A = ℕ} 0 1 = cc in absurd (omega arith)
