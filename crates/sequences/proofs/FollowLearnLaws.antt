@@ -28,7 +28,7 @@ use Rattle.sequences.specs.Gain.{fits}
 use Rattle.sequences.specs.Learn.{firstWronglyEmpty, newSets, learnPositions, learnSays, learnGives}
 use Rattle.sequences.specs.Follow.{followedFrom, followed, followPositions, followSays, followGives}
 use Rattle.sequences.specs.Statements.{FollowIsLearn}
-use Rattle.sequences.proofs.AcceptLaws.{facts-empty}
+use Rattle.sequences.proofs.AcceptLaws.{EmptyWhere, facts-empty}
 use Rattle.sequences.proofs.FollowLaws.{length-followed, followed-activity, followed-completes}
 
 -- ---- the sets of the sequence
@@ -61,9 +61,9 @@ followed-last x (a ∷ []) (suc i) h = absurd (omega arith)
 followed-last x (a ∷ b ∷ t) zero h = absurd (omega arith)
 followed-last x (a ∷ b ∷ t) (suc i) h = followed-last (single a) (b ∷ t) i (omega arith)
 
-module _ (t : List ℕ) (below : (i : ℕ) → i < length t → getD t i 0 < 32) (some : 0 < length t) where
+module _ (t : List ℕ) (below : (i : ℕ) → i < length t → getD t i 0 < 32) where
   inputs-where : (i : ℕ) → i < length t → (at (followed t) i .input ≡ 0) ↔ (i ≡ 0)
-  inputs-where zero h = ((λ e. refl), (λ e. followed-first 0 t some))
+  inputs-where zero h = ((λ e. refl), (λ e. followed-first 0 t h))
   inputs-where (suc i) h = ((λ e. absurd (single-filled (getD t i 0) (below i (omega arith)) (sym (followed-input 0 t i h) ∙ e))), (λ e. absurd (omega arith)))
 
   outputs-where : (i : ℕ) → i < length t → (at (followed t) i .output ≡ 0) ↔ (i + 1 ≡ length t)
@@ -73,14 +73,17 @@ module _ (t : List ℕ) (below : (i : ℕ) → i < length t → getD t i 0 < 32)
       (λ l. ((λ e. omega arith), (λ e. followed-last 0 t i (omega arith))))
       (lt-or-le (i + 1) (length t))
 
-  followed-empty : firstWronglyEmpty (followed t) ≡ 0
-  followed-empty =
-      facts-empty (followed t)
-      (record {
-        inputs = λ i l. inputs-where i (subst (λ (n : ℕ). i < n) (length-followed 0 t) l);
-        outputs = λ i l. subst (λ (n : ℕ). (at (followed t) i .output ≡ 0) ↔ (i + 1 ≡ n)) (sym (length-followed 0 t)) (outputs-where i (subst (λ (n : ℕ). i < n) (length-followed 0 t) l));
-      })
+  -- X is empty at the first position only, and Y at the last only
+  pub followed-empty-where : EmptyWhere (followed t)
+  followed-empty-where = record {
+    inputs = λ i l. inputs-where i (subst (λ (n : ℕ). i < n) (length-followed 0 t) l);
+    outputs = λ i l. subst (λ (n : ℕ). (at (followed t) i .output ≡ 0) ↔ (i + 1 ≡ n)) (sym (length-followed 0 t)) (outputs-where i (subst (λ (n : ℕ). i < n) (length-followed 0 t) l));
+  }
 
+  followed-empty : firstWronglyEmpty (followed t) ≡ 0
+  followed-empty = facts-empty (followed t) followed-empty-where
+
+module _ (t : List ℕ) (below : (i : ℕ) → i < length t → getD t i 0 < 32) (some : 0 < length t) where
   followed-possible : firstImpossible (followed t) ≡ 0
   followed-possible = each-from-possible (followed t) (completes-each _ (followed t) (followed-completes t below some))
 
@@ -133,7 +136,7 @@ same-positions net t e =
         let below = activities-below (length t) (λ i. getD t i 0) e in
         let two = shaped-facts (net .start) (net .end) (length t) (λ i. getD t i 0) h .two in
         let some : 0 < length t = omega arith in
-        follow-fits net t h ∙ sym (learn-fits net (followed t) (same-shape (net .start) (net .end) t ∙ h) (followed-empty t below some) (followed-possible t below some) (followed-zero t below some))
+        follow-fits net t h ∙ sym (learn-fits net (followed t) (same-shape (net .start) (net .end) t ∙ h) (followed-empty t below) (followed-possible t below some) (followed-zero t below some))
 
 pub follow-says : (net : Net) (t : List ℕ) → followSays net t ≡ learnSays net (words (followed t))
 unfolding followSays learnSays traceWithinLimits withinLimits

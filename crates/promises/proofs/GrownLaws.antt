@@ -1,0 +1,92 @@
+-- The net after a list of calls: it holds exactly what it held and the sets of the sequences accepted, each of which is
+-- well-formed for its start and end. One call after the other. Assumes nothing.
+use Prim.Native.Nat.{ℕ}
+use mathlib.Core.Path.{_≡_, refl, sym, subst, _∙_}
+use mathlib.Core.Bool.{true}
+use mathlib.Core.List.{List, [], _∷_, List·Memᴰ, List·Memᴰ·head, List·Memᴰ·tail, List·Memᴰ·not-nil, List·Memᴰ·cases-cons}
+use mathlib.Core.Logic.{_↔_, _⊎_, inl, inr, ⊎-elim}
+use Rattle.obligations.specs.Sequence.{Binding, WellFormed}
+use Rattle.obligations.proofs.BoolLaws.{true-or-false}
+use Rattle.net.specs.Sides.{OnSide}
+use Rattle.net.specs.Orderly.{Orderly}
+use Rattle.net.specs.Valid.{Valid}
+use Rattle.net.specs.declared.Net.{Net}
+use Rattle.net.specs.declared.Side.{Side}
+use Rattle.net.specs.declared.Side.the-variants.{Input, Output}
+use Rattle.sequences.specs.Gain.{SetOf}
+use Rattle.promises.specs.Calls.{Call, sequenceOf, says, gives, grown, learned, AllWords}
+use Rattle.promises.specs.Promise.{Gains}
+use Rattle.promises.proofs.ValidWalkLaws.{SetsAreMasks}
+use Rattle.promises.proofs.CallLaws.{call-gains, call-valid, call-stays, call-masks}
+
+-- m is a set that some of the sequences has for activity a's side
+pub record SetOfSome (side : Side) (ss : List (List Binding)) (a m : ℕ) : Type 0 where
+  pub sequence : List Binding
+  pub among : List·Memᴰ sequence ss
+  pub set-of : SetOf side sequence a m
+
+-- a net with the sets of several sequences more, each of them well-formed for its start and end
+pub record Grown (net after : Net) (ss : List (List Binding)) : Type 0 where
+  pub same-start : after .start ≡ net .start
+  pub same-end : after .end ≡ net .end
+  pub is-orderly : Orderly after
+  pub on-sides : (side : Side) (a m : ℕ) → OnSide after side a m ↔ (OnSide net side a m ⊎ SetOfSome side ss a m)
+  pub each-formed : (s : List Binding) → List·Memᴰ s ss → WellFormed (net .start) (net .end) s
+  pub each-masks : (s : List Binding) → List·Memᴰ s ss → SetsAreMasks s
+
+grown-none : (net : Net) → Orderly net → Grown net net []
+grown-none net o = record {
+  same-start = refl;
+  same-end = refl;
+  is-orderly = o;
+  on-sides = λ side a m. (inl, (λ w. ⊎-elim (λ i. i) (λ f. absurd (List·Memᴰ·not-nil (f .among))) w));
+  each-formed = λ s m. absurd (List·Memᴰ·not-nil m);
+  each-masks = λ s m. absurd (List·Memᴰ·not-nil m);
+}
+
+-- well-formed for the start and end of a net that has the same
+formed-as : {s : List Binding} (start end start′ end′ : ℕ) → start ≡ start′ → end ≡ end′ → WellFormed start end s → WellFormed start′ end′ s
+formed-as {s} start end start′ end′ e f w = subst (λ (a : ℕ). WellFormed a end′ s) e (subst (λ (b : ℕ). WellFormed start b s) f w)
+
+-- one sequence more, before the others
+grown-more : (net next after : Net) (s : List Binding) (ss : List (List Binding)) → SetsAreMasks s → Valid next s → Gains net s next → Grown next after ss → Grown net after (s ∷ ss)
+grown-more net next after s ss small v g r = record {
+  same-start = r .same-start ∙ g .same-start;
+  same-end = r .same-end ∙ g .same-end;
+  is-orderly = r .is-orderly;
+  on-sides = λ side a m. (
+    (λ i. ⊎-elim (λ j. ⊎-elim inl (λ f. inr (record { sequence = s; among = List·Memᴰ·head refl; set-of = f })) (g .on-sides side a m .0 j)) (λ f. inr (record { sequence = f .sequence; among = List·Memᴰ·tail (f .among); set-of = f .set-of })) (r .on-sides side a m .0 i)),
+    (λ w. r .on-sides side a m .1 (⊎-elim (λ i. inl (g .on-sides side a m .1 (inl i))) (λ f. back side a m f (List·Memᴰ·cases-cons (f .among))) w)),
+  );
+  each-formed = λ t m. ⊎-elim (λ e. rw e (as-net s (v .well-formed))) (λ k. as-net t (r .each-formed t k)) (List·Memᴰ·cases-cons m);
+  each-masks = λ t m. ⊎-elim (λ e. rw e small) (λ k. r .each-masks t k) (List·Memᴰ·cases-cons m);
+}
+  where
+    as-net : (t : List Binding) → WellFormed (next .start) (next .end) t → WellFormed (net .start) (net .end) t
+    as-net t w = formed-as (next .start) (next .end) (net .start) (net .end) (g .same-start) (g .same-end) w
+
+    back : (side : Side) (a m : ℕ) (f : SetOfSome side (s ∷ ss) a m) → (f .sequence ≡ s) ⊎ List·Memᴰ (f .sequence) ss → OnSide next side a m ⊎ SetOfSome side ss a m
+    back side a m f (inl e) = inl (g .on-sides side a m .1 (inr (subst (λ (t : List Binding). SetOf side t a m) e (f .set-of))))
+    back side a m f (inr k) = inr (record { sequence = f .sequence; among = k; set-of = f .set-of })
+
+pub grown-list : (net : Net) (calls : List Call) → Orderly net → AllWords calls → Grown net (grown net calls) (learned net calls)
+unfolding grown learned
+grown-list net [] o w = grown-none net o
+grown-list net (call ∷ calls) o w =
+    ⊎-elim (λ e. rw e (more e (λ p. grown-list (gives net call) calls p (λ c m. w c (List·Memᴰ·tail m)))))
+    (λ e. rw e (subst (λ (n : Net). Grown n (grown (gives net call) calls) (learned (gives net call) calls)) (call-stays net call e) (grown-list (gives net call) calls (subst Orderly (sym (call-stays net call e)) o) (λ c m. w c (List·Memᴰ·tail m)))))
+    (true-or-false (says net call .ok))
+  where
+    more : says net call .ok ≡ true → (Orderly (gives net call) → Grown (gives net call) (grown (gives net call) calls) (learned (gives net call) calls)) → Grown net (grown (gives net call) calls) (sequenceOf call ∷ learned (gives net call) calls)
+    more e rest =
+        let g = call-gains net call e in
+        let small = w call (List·Memᴰ·head refl) in
+        grown-more net (gives net call) (grown (gives net call) calls) (sequenceOf call) (learned (gives net call) calls) (call-masks call small) (call-valid net call small e) g (rest (g .is-orderly))
+
+-- each of the sequences is valid in the net that has grown by them
+pub grown-valid : (net after : Net) (ss : List (List Binding)) → Grown net after ss → (s : List Binding) → List·Memᴰ s ss → Valid after s
+grown-valid net after ss g s m = record {
+  well-formed = formed-as (net .start) (net .end) (after .start) (after .end) (sym (g .same-start)) (sym (g .same-end)) (g .each-formed s m);
+  inputs-on-side = λ i l. g .on-sides Input _ _ .1 (inr (record { sequence = s; among = m; set-of = record { position = i; inside = l; activity-is = refl; set-is = refl } }));
+  outputs-on-side = λ i l. g .on-sides Output _ _ .1 (inr (record { sequence = s; among = m; set-of = record { position = i; inside = l; activity-is = refl; set-is = refl } }));
+}

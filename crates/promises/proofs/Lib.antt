@@ -1,0 +1,12 @@
+-- The laws of the definitions in specs/, by concept.
+pub mod DueLaws
+pub mod ValidWalkLaws
+pub mod CallLaws
+pub mod GrownLaws
+pub mod MaskLaws
+pub mod PassLaws
+pub mod RefusalLaws
+pub mod AnswerLaws
+pub mod ReplayLaws
+pub mod Theorems
+pub mod Examples

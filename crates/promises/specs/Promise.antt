@@ -1,0 +1,61 @@
+-- Demand 3 (01, "Learning and containment"): one promise of every list of learning calls. The proof is in proofs/Theorems.antt.
+use Prim.Native.Nat.{ℕ, _-_}
+use mathlib.Core.Path.{_≡_}
+use mathlib.Core.Bool.{true}
+use mathlib.Core.List.{List, _∷_, _++_, List·Memᴰ}
+use mathlib.Core.Logic.{_↔_, _⊎_}
+use Rattle.obligations.specs.Sequence.{Binding}
+use Rattle.net.specs.Refusals.{accepted, refused}
+use Rattle.net.specs.Sides.{OnSide, netSize}
+use Rattle.net.specs.Orderly.{Orderly}
+use Rattle.net.specs.Fresh.{freshSays, freshGives}
+use Rattle.net.specs.Contained.{containedSays}
+use Rattle.net.specs.Valid.{Valid}
+use Rattle.net.specs.declared.Net.{Net}
+use Rattle.net.specs.declared.Side.{Side}
+use Rattle.walks.specs.Arcs.{arcs}
+use Rattle.walks.specs.Walks.{Passes}
+use Rattle.walks.specs.Check.{checkSays}
+use Rattle.walks.specs.Statements.{Masks}
+use Rattle.sequences.specs.Gain.{SetOf}
+use Rattle.search.specs.Statements.{NoChoice}
+use Rattle.promises.specs.Calls.{Call, sequenceOf, says, gives, grown, learned, AllWords}
+use Rattle.promises.specs.Refusals.{NoneHolds, Listed}
+use Rattle.promises.specs.Replays.{SaysFound, SaysNone, NotRefused, EndsWithin}
+
+-- the second net is the first with exactly the sequence's sets more
+pub record Gains (net : Net) (s : List Binding) (after : Net) : Type 0 where
+  pub same-start : after .start ≡ net .start
+  pub same-end : after .end ≡ net .end
+  pub is-orderly : Orderly after
+  pub on-sides : (side : Side) (a m : ℕ) → OnSide after side a m ↔ (OnSide net side a m ⊎ SetOf side s a m)
+
+-- one call, given the net so far: no refusal holds, or one is listed for it; the first is what "accepted" says, with the number
+-- of new sets, and the second what "refused" says, with number and place; an accepted call's net gains, a refused one's stays
+pub record Called (net : Net) (call : Call) : Type 0 where
+  pub one-or-none : NoneHolds net call ⊎ ((number place : ℕ) × Listed net call number place)
+  pub accepted-exactly : (new : ℕ) → (says net call ≡ accepted new) ↔ (NoneHolds net call × (new ≡ netSize (gives net call) - netSize net))
+  pub refused-exactly : (number place : ℕ) → (says net call ≡ refused number place) ↔ Listed net call number place
+  pub gains : NoneHolds net call → Gains net (sequenceOf call) (gives net call)
+  pub stays : (number place : ℕ) → Listed net call number place → gives net call ≡ net
+
+-- what is promised of a list of calls, the first of which is given the net `first`
+pub record Promise (first : Net) (calls : List Call) : Type 0 where
+  -- 1. each call is accepted or refused exactly as the papers list it, given the net so far, which then gains or stays
+  pub each-call : (before after : List Call) (call : Call) → calls ≡ before ++ (call ∷ after) → Called (grown first before) call
+  -- 2. if any was accepted, the grown net passes the net check
+  pub grown-passes : (s : List Binding) → List·Memᴰ s (learned first calls) → Passes (grown first calls) × (checkSays (grown first calls) ≡ accepted (arcs (grown first calls)))
+  -- 3. in a net that passes with the same start and end, the grown net is contained exactly when every sequence accepted is valid
+  pub contained-exactly : (other : Net) → checkSays other .ok ≡ true → other .start ≡ first .start → other .end ≡ first .end
+      → (containedSays (grown first calls) other ≡ accepted 1) ↔ ((s : List Binding) → List·Memᴰ s (learned first calls) → Valid other s)
+  -- 4. where it is contained, no trace found in it is none there, whatever the two budgets and buffers are
+  pub found-never-none : (other : Net) → containedSays (grown first calls) other ≡ accepted 1
+      → (trace : List ℕ) (budget budget′ : ℕ) (out out′ : List ℕ) → SaysFound (grown first calls) trace budget out → SaysNone other trace budget′ out′ → ⊥
+  -- 5. a replay that isn't refused, as it is in each net that doesn't pass, says none exactly when its search ends within the
+  -- budget and no choice of the net's bindings makes the trace valid; each mask of a net in a program has 32 bits
+  pub none-exactly : (net : Net) → Masks net → (trace : List ℕ) (budget : ℕ) (out : List ℕ) → NotRefused net trace budget out
+      → SaysNone net trace budget out ↔ (EndsWithin net trace budget × NoChoice net trace)
+
+-- demand 3: for every start and end that fresh accepts and every list of calls, starting from the net that fresh returns
+abbrev pub Promised : Type 0
+Promised = (start end : ℕ) → freshSays start end .ok ≡ true → (calls : List Call) → AllWords calls → Promise (freshGives start end) calls
