@@ -11,3 +11,5 @@ pub mod WithSidesLaws
 pub mod PutLaws
 pub mod FreshLaws
 pub mod ContainedLaws
+pub mod AscendingLaws
+pub mod WithinLaws

@@ -5,7 +5,9 @@ pub mod CallLaws
 pub mod GrownLaws
 pub mod MaskLaws
 pub mod PassLaws
+pub mod WithinLaws
 pub mod RefusalLaws
+pub mod SentenceLaws
 pub mod AnswerLaws
 pub mod ReplayLaws
 pub mod Theorems

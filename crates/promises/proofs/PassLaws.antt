@@ -1,74 +1,53 @@
 -- A net grown from a fresh one by sequences, at least one, passes (000, Theorem 1): each of its activities occurs in one of them,
--- since what else it holds is the two empty sets. It is contained in an orderly net of the same start and end exactly when each
--- of them is valid there. Assumes nothing.
+-- since what else it holds is the two empty sets. Assumes nothing.
 use Prim.Native.Nat.{ℕ, _^_, _<_}
-use mathlib.Core.Path.{_≡_, refl, sym, ap, subst, _∙_}
-use mathlib.Core.Bool.{Bool, true, false, cond}
+use mathlib.Core.Path.{_≡_, sym, ap, subst, _∙_}
+use mathlib.Core.Bool.{true}
 use mathlib.Core.List.{List, List·Memᴰ}
 use mathlib.Core.Logic.{_⊎_, inl, inr, ⊎-elim}
 use native.Mathlib.Omega.{arith}
-use Rattle.obligations.specs.Limits.{activities}
 use Rattle.obligations.specs.Sets.{member}
-use Rattle.obligations.specs.Sequence.{Binding, WellFormed, at}
-use Rattle.obligations.proofs.BoolLaws.{true-or-false, false-not-true}
+use Rattle.obligations.specs.Sequence.{Binding}
+use Rattle.obligations.proofs.BoolLaws.{false-not-true}
 use Rattle.obligations.proofs.SetLaws.{member-none}
-use Rattle.net.specs.Refusals.{Says, accepted, refused}
+use Rattle.net.specs.Refusals.{accepted}
 use Rattle.net.specs.Sides.{emptyAt, OnSide}
-use Rattle.net.specs.Orderly.{endsOk, orderly, Orderly}
+use Rattle.net.specs.Orderly.{endsOk}
 use Rattle.net.specs.Fresh.{freshNet}
-use Rattle.net.specs.Contained.{contained, containedSays, Contained}
 use Rattle.net.specs.Valid.{Valid}
 use Rattle.net.specs.declared.Net.{Net}
 use Rattle.net.specs.declared.Side.{Side}
 use Rattle.net.specs.declared.Side.the-variants.{Input, Output}
-use Rattle.net.proofs.ListLaws.{one-listed}
 use Rattle.net.proofs.OrderlyLaws.{facts-orderly}
 use Rattle.net.proofs.FreshLaws.{fresh-on-side}
-use Rattle.net.proofs.ContainedLaws.{contained-facts, facts-contained}
 use Rattle.walks.specs.Arcs.{arcs}
 use Rattle.walks.specs.Walks.{InNet, the-start, the-end, with-a-set, in-a-set, OnWalk, Passes}
 use Rattle.walks.specs.Check.{checkSays}
 use Rattle.walks.specs.Statements.{Masks}
 use Rattle.walks.proofs.CheckLaws.{says-none-lost, passes-none-lost}
-use Rattle.sequences.specs.Gain.{SetOf, setFor}
 use Rattle.promises.proofs.ValidWalkLaws.{Occurs, occurring-on-walk, named-occurs, start-occurs, end-occurs}
 use Rattle.promises.proofs.MaskLaws.{sets-masks}
 use Rattle.promises.proofs.GrownLaws.{SetOfSome, Grown, grown-valid}
 
--- ---- what passes is said to pass
-
+-- what passes is said to pass
 pub passes-said : (net : Net) → Passes net → checkSays net ≡ accepted (arcs net)
 passes-said net p = let o = facts-orderly net (p .is-orderly) in says-none-lost net o (passes-none-lost net o p)
 
--- what is said to pass is orderly
-pub said-orderly : (net : Net) → checkSays net .ok ≡ true → orderly net ≡ true
-unfolding checkSays
-said-orderly net e = ⊎-elim (λ o. o) (λ o. absurd (false-not-true (refl {a = false}) (rw o at e))) (true-or-false (orderly net))
-
--- the sets of a valid sequence are on their sides
-set-on-side : (net : Net) (side : Side) (a m : ℕ) (s : List Binding) → Valid net s → SetOf side s a m → OnSide net side a m
-set-on-side net side a m s v f =
-    subst (λ (b : ℕ). OnSide net side b m) (f .activity-is) (subst (OnSide net side (at s (f .position) .activity)) (f .set-is) (here side))
-  where
-    here : (side : Side) → OnSide net side (at s (f .position) .activity) (setFor side (at s (f .position)))
-    here Input = v .inputs-on-side (f .position) (f .inside)
-    here Output = v .outputs-on-side (f .position) (f .inside)
-
 module _ (start end : ℕ) (h : endsOk start end ≡ true) (after : Net) (ss : List (List Binding)) (g : Grown (freshNet start end) after ss) where
-  -- ---- the grown net passes
+  valid : (s : List Binding) → List·Memᴰ s ss → Valid after s
+  valid s m = grown-valid (freshNet start end) after ss g s m
+
+  of-sequence : (a : ℕ) (s : List Binding) → List·Memᴰ s ss → Occurs s a → OnWalk after a
+  of-sequence a s m o = occurring-on-walk after s (g .each-masks s m) (valid s m) a o
 
   -- a side that holds the empty set is the start's or the end's
   at-an-end : (side : Side) (a : ℕ) → a ≡ emptyAt after side → (s : List Binding) → List·Memᴰ s ss → OnWalk after a
-  at-an-end Input a e s m = occurring-on-walk after s (g .each-masks s m) (grown-valid (freshNet start end) after ss g s m) a (rw e (start-occurs after s (g .each-masks s m) (grown-valid (freshNet start end) after ss g s m)))
-  at-an-end Output a e s m = occurring-on-walk after s (g .each-masks s m) (grown-valid (freshNet start end) after ss g s m) a (rw e (end-occurs after s (g .each-masks s m) (grown-valid (freshNet start end) after ss g s m)))
+  at-an-end Input a e s m = of-sequence a s m (rw e (start-occurs after s (g .each-masks s m) (valid s m)))
+  at-an-end Output a e s m = of-sequence a s m (rw e (end-occurs after s (g .each-masks s m) (valid s m)))
 
   empty-as-fresh : (side : Side) → emptyAt (freshNet start end) side ≡ emptyAt after side
   empty-as-fresh Input = sym (g .same-start)
   empty-as-fresh Output = sym (g .same-end)
-
-  -- an activity of a sequence
-  of-sequence : (a : ℕ) (s : List Binding) → List·Memᴰ s ss → Occurs s a → OnWalk after a
-  of-sequence a s m o = occurring-on-walk after s (g .each-masks s m) (grown-valid (freshNet start end) after ss g s m) a o
 
   with-set : (side : Side) (a m : ℕ) (s : List Binding) → List·Memᴰ s ss → OnSide (freshNet start end) side a m ⊎ SetOfSome side ss a m → OnWalk after a
   with-set side a m s k (inl i) = at-an-end side a (fresh-on-side start end h side a m .0 i .0 ∙ empty-as-fresh side) s k
@@ -79,7 +58,7 @@ module _ (start end : ℕ) (h : endsOk start end ≡ true) (after : Net) (ss : L
   in-set side b a m t (inr f) =
       let s = f .sequence in
       of-sequence a s (f .among)
-      (named-occurs after s (g .each-masks s (f .among)) (grown-valid (freshNet start end) after ss g s (f .among)) side (f .set-of .position) a (f .set-of .inside) (subst (λ (n : ℕ). member n a ≡ true) (sym (f .set-of .set-is)) t))
+      (named-occurs after s (g .each-masks s (f .among)) (valid s (f .among)) side (f .set-of .position) a (f .set-of .inside) (subst (λ (n : ℕ). member n a ≡ true) (sym (f .set-of .set-is)) t))
 
   on-walk : (s : List Binding) → List·Memᴰ s ss → (a : ℕ) → InNet after a → OnWalk after a
   on-walk s k a (the-start e) = at-an-end Input a e s k
@@ -96,45 +75,3 @@ module _ (start end : ℕ) (h : endsOk start end ≡ true) (after : Net) (ss : L
     where
       of-some : (side : Side) (a m : ℕ) → SetOfSome side ss a m → m < 2 ^ 32
       of-some side a m f = subst (λ (n : ℕ). n < 2 ^ 32) (f .set-of .set-is) (g .each-masks (f .sequence) (f .among) side (f .set-of .position) (f .set-of .inside))
-
-  -- ---- containment
-
-  module _ (other : Net) (o : Orderly other) (es : other .start ≡ freshNet start end .start) (ee : other .end ≡ freshNet start end .end) where
-    empty-as-other : (side : Side) → emptyAt (freshNet start end) side ≡ emptyAt other side
-    empty-as-other Input = sym es
-    empty-as-other Output = sym ee
-
-    -- the two empty sets are in every orderly net of the same start and end
-    fresh-in : (side : Side) (a m : ℕ) → a < activities → OnSide (freshNet start end) side a m → OnSide other side a m
-    fresh-in side a m l i =
-        let f = fresh-on-side start end h side a m .0 i in
-        rw (o .sides side a l .just-empty (f .0 ∙ empty-as-other side), f .1) (one-listed 0)
-
-    pub all-valid-contained : ((s : List Binding) → List·Memᴰ s ss → Valid other s) → Contained after other
-    all-valid-contained v = record {
-      same-start = g .same-start ∙ sym es;
-      same-end = g .same-end ∙ sym ee;
-      among = λ side a m l i. ⊎-elim (fresh-in side a m l) (λ f. set-on-side other side a m (f .sequence) (v (f .sequence) (f .among)) (f .set-of)) (g .on-sides side a m .0 i);
-    }
-
--- what is valid in a net is valid in each that it is contained in
-pub valid-grows : (net other : Net) (s : List Binding) → Orderly net → Contained net other → Valid net s → Valid other s
-valid-grows net other s o c v = record {
-  well-formed = subst (λ (a : ℕ). WellFormed a (other .end) s) (c .same-start) (subst (λ (b : ℕ). WellFormed (net .start) b s) (c .same-end) (v .well-formed));
-  inputs-on-side = λ i l. c .among Input _ _ (v .well-formed .activities-only i l) (v .inputs-on-side i l);
-  outputs-on-side = λ i l. c .among Output _ _ (v .well-formed .activities-only i l) (v .outputs-on-side i l);
-}
-
--- what containment says of an orderly net: yes only of one that contains it, and of each orderly one that does
-pub said-contained : (net other : Net) → orderly net ≡ true → containedSays net other ≡ accepted 1 → Contained net other
-unfolding containedSays
-said-contained net other o e = contained-facts net other (yes (orderly other) (contained net other) (rw o at e))
-  where
-    yes : (t u : Bool) → cond t (cond u (accepted 1) (accepted 0)) (refused 2 2) ≡ accepted 1 → u ≡ true
-    yes true true e = refl
-    yes true false e = absurd (let z : _≡_ {A = ℕ} 0 1 = ap (λ (s : Says). s .value) e in omega arith)
-    yes false u e = absurd (let z : _≡_ {A = ℕ} 2 0 = ap (λ (s : Says). s .refusal) e in omega arith)
-
-pub contained-said : (net other : Net) → orderly net ≡ true → orderly other ≡ true → Contained net other → containedSays net other ≡ accepted 1
-unfolding containedSays
-contained-said net other o p c = rw (o, p, facts-contained net other c)

@@ -1,6 +1,6 @@
 -- Each call is answered by the lowest refusal that holds of it: link by link of its chain, the test passes and then the sentence
 -- holds nowhere, or it fails and then the sentence holds at the place returned. Assumes nothing.
-use Prim.Native.Nat.{ℕ, zero, suc, _<_}
+use Prim.Native.Nat.{ℕ, zero, suc, _≤_, _<_}
 use mathlib.Core.Path.{_≡_, refl, sym, ap, subst, _∙_}
 use mathlib.Core.Bool.{Bool, true, false, cond}
 use mathlib.Core.Logic.{_↔_, _⊎_, inl, inr, ⊎-elim}
@@ -34,6 +34,17 @@ refusal-of has-full-side = refl
 
 same-refusal : (q r : Refusal) → numberOf q ≡ numberOf r → q ≡ r
 same-refusal q r e = sym (refusal-of q) ∙ ap refusalOf e ∙ refusal-of r
+
+-- no refusal of these calls has the number 5, 6 or 8
+number-range : (r : Refusal) → ((2 ≤ numberOf r) × (numberOf r ≤ 4)) ⊎ ((numberOf r ≡ 7) ⊎ ((9 ≤ numberOf r) × (numberOf r ≤ 12)))
+number-range is-disorderly = inl (omega arith, omega arith)
+number-range is-too-long = inl (omega arith, omega arith)
+number-range has-no-activity = inl (omega arith, omega arith)
+number-range has-wrong-ends = inr (inl refl)
+number-range is-wrongly-empty = inr (inr (omega arith, omega arith))
+number-range is-not-possible = inr (inr (omega arith, omega arith))
+number-range has-left-over = inr (inr (omega arith, omega arith))
+number-range has-full-side = inr (inr (omega arith, omega arith))
 
 -- ---- a place is determined by its sentence
 
@@ -76,45 +87,16 @@ Clear net call n = (r : Refusal) (p : ℕ) → numberOf r < n → Holds net call
 
 module _ (net : Net) (call : Call) where
   pub clear-from : Clear net call 2
-  clear-from is-disorderly p l h = omega arith
-  clear-from is-too-long p l h = omega arith
-  clear-from has-no-activity p l h = omega arith
-  clear-from has-wrong-ends p l h = omega arith
-  clear-from is-wrongly-empty p l h = omega arith
-  clear-from is-not-possible p l h = omega arith
-  clear-from has-left-over p l h = omega arith
-  clear-from has-full-side p l h = omega arith
+  clear-from r p l h = ⊎-elim (λ w. omega (arith, w .0)) (λ w. ⊎-elim (λ e. omega arith) (λ v. omega (arith, v .0)) w) (number-range r)
 
-  -- no refusal of these calls has the number 5, 6 or 8
   pub clear-five : Clear net call 5 → Clear net call 7
-  clear-five c is-disorderly p l h = c is-disorderly p (omega arith) h
-  clear-five c is-too-long p l h = c is-too-long p (omega arith) h
-  clear-five c has-no-activity p l h = c has-no-activity p (omega arith) h
-  clear-five c has-wrong-ends p l h = omega arith
-  clear-five c is-wrongly-empty p l h = omega arith
-  clear-five c is-not-possible p l h = omega arith
-  clear-five c has-left-over p l h = omega arith
-  clear-five c has-full-side p l h = omega arith
+  clear-five c r p l h = c r p (⊎-elim (λ w. omega (arith, w .1)) (λ w. ⊎-elim (λ e. omega arith) (λ v. omega (arith, v .0)) w) (number-range r)) h
 
   pub clear-eight : Clear net call 8 → Clear net call 9
-  clear-eight c is-disorderly p l h = c is-disorderly p (omega arith) h
-  clear-eight c is-too-long p l h = c is-too-long p (omega arith) h
-  clear-eight c has-no-activity p l h = c has-no-activity p (omega arith) h
-  clear-eight c has-wrong-ends p l h = c has-wrong-ends p (omega arith) h
-  clear-eight c is-wrongly-empty p l h = omega arith
-  clear-eight c is-not-possible p l h = omega arith
-  clear-eight c has-left-over p l h = omega arith
-  clear-eight c has-full-side p l h = omega arith
+  clear-eight c r p l h = c r p (⊎-elim (λ w. omega (arith, w .1)) (λ w. ⊎-elim (λ e. omega arith) (λ v. omega (arith, v .0)) w) (number-range r)) h
 
   pub all-clear : Clear net call 13 → NoneHolds net call
-  all-clear c is-disorderly p h = c is-disorderly p (omega arith) h
-  all-clear c is-too-long p h = c is-too-long p (omega arith) h
-  all-clear c has-no-activity p h = c has-no-activity p (omega arith) h
-  all-clear c has-wrong-ends p h = c has-wrong-ends p (omega arith) h
-  all-clear c is-wrongly-empty p h = c is-wrongly-empty p (omega arith) h
-  all-clear c is-not-possible p h = c is-not-possible p (omega arith) h
-  all-clear c has-left-over p h = c has-left-over p (omega arith) h
-  all-clear c has-full-side p h = c has-full-side p (omega arith) h
+  all-clear c r p h = c r p (⊎-elim (λ w. omega (arith, w .1)) (λ w. ⊎-elim (λ e. omega arith) (λ v. omega (arith, v .1)) w) (number-range r)) h
 
   pub clear-next : (r : Refusal) → Clear net call (numberOf r) → ((p : ℕ) → Holds net call r p → ⊥) → Clear net call (suc (numberOf r))
   clear-next r c none q p l h =

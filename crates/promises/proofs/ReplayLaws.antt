@@ -22,7 +22,7 @@ use Rattle.search.specs.Statements.{NoChoice}
 use Rattle.search.proofs.ReplayLaws.{refused-says}
 use Rattle.search.proofs.Theorems.{none-said, accepted-call, none-of-call, found-of-call}
 use Rattle.promises.specs.Replays.{SaysFound, SaysNone, NotRefused, EndsWithin}
-use Rattle.promises.proofs.PassLaws.{valid-grows}
+use Rattle.promises.proofs.WithinLaws.{valid-grows}
 
 module _ (net other : Net) (o : Orderly net) (c : Contained net other) where
   choice-grows : (trace : List ℕ) (s : List Binding) → Choice net trace s → Choice other trace s
@@ -36,7 +36,7 @@ module _ (net other : Net) (o : Orderly net) (c : Contained net other) where
   pub found-not-none : Masks net → (trace : List ℕ) (budget budget′ : ℕ) (out out′ : List ℕ) → SaysFound net trace budget out → SaysNone other trace budget′ out′ → ⊥
   found-not-none small trace budget budget′ out out′ f n =
       let w = found-of-call net trace budget out (f .0) small (f .1) in
-      none-of-call other trace budget′ (length out′) (n .0) (n .1) (w .0) (choice-grows trace (w .0) (w .1)) (valid-grows net other (w .0) o c (w .2))
+      none-of-call other trace budget′ (length out′) (n .0) (n .1) (w .0) (choice-grows trace (w .0) (w .1)) (valid-grows net other (w .0) c (w .2))
 
 module _ (net : Net) (small : Masks net) (trace : List ℕ) (budget : ℕ) (out : List ℕ) (h : NotRefused net trace budget out) where
   call-ok : replayRefusal net trace (length out) .ok ≡ true

@@ -2,7 +2,7 @@
 -- from the fresh one. Assumes nothing.
 use Prim.Native.Nat.{ℕ, _-_}
 use mathlib.Core.Path.{_≡_, refl, sym, ap, subst, _∙_}
-use mathlib.Core.Bool.{true}
+use mathlib.Core.Bool.{true, false}
 use mathlib.Core.List.{List, List·Memᴰ, List·Memᴰ·head, Memᴰ·append-right}
 use mathlib.Core.Logic.{_↔_, ⊎-elim}
 use Rattle.obligations.specs.Sequence.{Binding}
@@ -26,7 +26,8 @@ use Rattle.promises.proofs.CallLaws.{call-gains, call-gained, call-stay
 use Rattle.promises.proofs.RefusalLaws.{answered-one, answered-accepted, answered-refused, none-ok, listed-not-ok}
 use Rattle.promises.proofs.AnswerLaws.{call-answered}
 use Rattle.promises.proofs.GrownLaws.{Grown, grown-list, grown-valid}
-use Rattle.promises.proofs.PassLaws.{passes-said, said-orderly, grown-net-passes, all-valid-contained, valid-grows, said-contained, contained-said, grown-masks}
+use Rattle.promises.proofs.PassLaws.{passes-said, grown-net-passes, grown-masks}
+use Rattle.promises.proofs.WithinLaws.{said-orderly, valid-grows, said-contained, contained-said, all-valid-contained}
 use Rattle.promises.proofs.ReplayLaws.{found-not-none, none-exactly}
 
 -- ---- one call
@@ -54,7 +55,7 @@ called net call w =
 fresh-made : (start end : ℕ) → freshSays start end .ok ≡ true → (endsOk start end ≡ true) × (freshGives start end ≡ freshNet start end)
 unfolding freshSays freshGives
 fresh-made start end e =
-    let h = ⊎-elim (λ o. o) (λ o. absurd (false-not-true (refl {a = mathlib.Core.Bool.false}) (rw o at e))) (true-or-false (endsOk start end)) in
+    let h = ⊎-elim (λ o. o) (λ o. absurd (false-not-true (refl {a = false}) (rw o at e))) (true-or-false (endsOk start end)) in
     (h, rw h)
 
 module _ (start end : ℕ) (h : endsOk start end ≡ true) (calls : List Call) (w : AllWords calls) where
@@ -70,7 +71,7 @@ module _ (start end : ℕ) (h : endsOk start end ≡ true) (calls : List Call) (
       let net = grown (freshNet start end) calls in
       let ss = learned (freshNet start end) calls in
       let o = said-orderly other p in (
-        (λ e s m. valid-grows net other s (grew .is-orderly) (grown-contained other e) (grown-valid (freshNet start end) net ss grew s m)),
+        (λ e s m. valid-grows net other s (grown-contained other e) (grown-valid (freshNet start end) net ss grew s m)),
         (λ v. contained-said net other (facts-orderly net (grew .is-orderly)) o (all-valid-contained start end h net ss grew other (orderly-facts other o) es ee v)),
       )
 

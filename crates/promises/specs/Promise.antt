@@ -30,8 +30,9 @@ pub record Gains (net : Net) (s : List Binding) (after : Net) : Type 0 where
   pub is-orderly : Orderly after
   pub on-sides : (side : Side) (a m : ℕ) → OnSide after side a m ↔ (OnSide net side a m ⊎ SetOf side s a m)
 
--- one call, given the net so far: no refusal holds, or one is listed for it; the first is what "accepted" says, with the number
--- of new sets, and the second what "refused" says, with number and place; an accepted call's net gains, a refused one's stays
+-- one call, given the net so far: no refusal holds of it, or one is listed for it. It is accepted exactly in the first case, with
+-- the growth of the net's own lists as the number of new sets, and returns the net with exactly its sequence's sets more; it is
+-- refused exactly in the second, with the number and place listed, and returns the net so far
 pub record Called (net : Net) (call : Call) : Type 0 where
   pub one-or-none : NoneHolds net call ⊎ ((number place : ℕ) × Listed net call number place)
   pub accepted-exactly : (new : ℕ) → (says net call ≡ accepted new) ↔ (NoneHolds net call × (new ≡ netSize (gives net call) - netSize net))
@@ -51,8 +52,9 @@ pub record Promise (first : Net) (calls : List Call) : Type 0 where
   -- 4. where it is contained, no trace found in it is none there, whatever the two budgets and buffers are
   pub found-never-none : (other : Net) → containedSays (grown first calls) other ≡ accepted 1
       → (trace : List ℕ) (budget budget′ : ℕ) (out out′ : List ℕ) → SaysFound (grown first calls) trace budget out → SaysNone other trace budget′ out′ → ⊥
-  -- 5. a replay that isn't refused, as it is in each net that doesn't pass, says none exactly when its search ends within the
-  -- budget and no choice of the net's bindings makes the trace valid; each mask of a net in a program has 32 bits
+  -- 5. in every net, whatever the trace, the budget and the buffer are, a replay that isn't refused says none exactly when its
+  -- search ends within the budget and no choice of the net's bindings makes the trace valid. (In a net that doesn't pass it is
+  -- refused. That each mask has 32 bits holds of every net in a program.)
   pub none-exactly : (net : Net) → Masks net → (trace : List ℕ) (budget : ℕ) (out : List ℕ) → NotRefused net trace budget out
       → SaysNone net trace budget out ↔ (EndsWithin net trace budget × NoChoice net trace)
 

@@ -104,6 +104,12 @@ module _ (c : ℕ) (s : List ℕ) (at e j k : ℕ) (h : at ≤ e) (t : e ≤ len
       let u : j < e = part-inside c s at e j h t q (omega arith) in
       part-more c s at e j h t q u ∙ ap (λ (l : List (List ℕ)). slice at j s ∷ l) (two-parts c s (j + 1) e k (omega arith) t r (omega (arith, rest-count c s at e j h t q u)))
 
+  -- of two or more separators, the second stands before the end too
+  pub rest-inside : 1 < count c (slice at e s) → k < e
+  rest-inside n =
+      let u : j < e = part-inside c s at e j h t q (omega arith) in
+      part-inside c s (j + 1) e k (omega arith) t r (omega (arith, rest-count c s at e j h t q u))
+
 -- ---- what was joined
 
 -- a part without the separator, and what follows its separator

@@ -1,0 +1,230 @@
+-- Laws of an accepted reading: its rows were all put, so the net is orderly, keeps its start and end, and holds exactly the
+-- rows' sets besides what it held; and the three lines before the rows. By induction on the lines. Assumes nothing.
+use Prim.Native.Nat.{ℕ, _+_}
+use mathlib.Core.Path.{_≡_, refl, sym, ap, _∙_}
+use mathlib.Core.Bool.{Bool, true, false, cond}
+use mathlib.Core.Logic.{_⊎_, inl, inr, ⊎-elim, _↔_}
+use mathlib.Core.List.{List, [], _∷_, List·Memᴰ·head, List·Memᴰ·tail, List·Memᴰ·not-nil, List·Memᴰ·cases-cons, List·Memᴰ}
+use lib.Dec.{leb, eqb}
+use lib.ListN.{length}
+use borrow.Author.Tests.{eqb-false}
+use Rattle.obligations.proofs.BoolLaws.{false-not-true}
+use Rattle.text.specs.Bytes.{sameBytes}
+use Rattle.text.specs.Lines.{lines}
+use Rattle.text.proofs.ByteLaws.{same-equal}
+use Rattle.net.specs.Refusals.{accepted, too-long, line-form, bad-ends}
+use Rattle.net.specs.Sides.{OnSide}
+use Rattle.net.specs.Orderly.{endsOk, orderly}
+use Rattle.net.specs.Fresh.{freshNet}
+use Rattle.net.specs.declared.Net.{Net}
+use Rattle.net.specs.declared.Side.{Side}
+use Rattle.net.proofs.OrderlyLaws.{facts-ends}
+use Rattle.net.proofs.FreshLaws.{fresh-orderly}
+use Rattle.net.proofs.PutLaws.{put-start, put-end, put-on-side}
+use Rattle.netfile.specs.Limits.{netBytes}
+use Rattle.netfile.specs.NetFile.{netHeader, startWord, endWord, readEnd, readRow, rowSays, rowGives, Reading, refusedAt, readRows, afterEnd, fromEnd, afterStart, fromStart, fromHeader, readNet}
+use Rattle.netfile.specs.Statements.{HasRow}
+use Rattle.netfile.specs.declared.line.EndLine.{EndLine}
+use Rattle.netfile.specs.declared.line.EndLine.the-variants.{Activity, Refused}
+use Rattle.netfile.specs.declared.line.RowLine.{RowLine}
+use Rattle.netfile.specs.declared.line.RowLine.the-variants as row-line
+use Rattle.netfile.proofs.RowLaws.{end-activity}
+use Rattle.netfile.proofs.PutRowLaws.{row-orderly}
+
+-- the net of a refused reading
+pub refused-orderly : orderly (freshNet 0 1) ≡ true
+unfolding endsOk
+refused-orderly = fresh-orderly 0 1 refl
+
+-- ---- the rows
+
+pub rows-orderly : (n : ℕ) (net : Net) (ls : List (List ℕ)) → orderly net ≡ true → orderly (readRows n net ls .net) ≡ true
+unfolding readRows
+rows-orderly n net [] o = o
+rows-orderly n net (l ∷ ls) o = go (rowSays net (readRow l) .ok) (rows-orderly (n + 1) (rowGives net (readRow l)) ls (row-orderly net (readRow l) o))
+  where
+    go : (t : Bool) → orderly (readRows (n + 1) (rowGives net (readRow l)) ls .net) ≡ true
+        → orderly (cond t (readRows (n + 1) (rowGives net (readRow l)) ls) (refusedAt (rowSays net (readRow l) .refusal) n) .net) ≡ true
+    go true h = h
+    go false h = refused-orderly
+
+-- what is known where rows were accepted: of the first row, and that the others were accepted from the net with it
+record Taken (n : ℕ) (net : Net) (l : List ℕ) (ls : List (List ℕ)) : Type 0 where
+  first : rowSays net (readRow l) .ok ≡ true
+  others : readRows (n + 1) (rowGives net (readRow l)) ls .says .ok ≡ true
+  all : readRows n net (l ∷ ls) ≡ readRows (n + 1) (rowGives net (readRow l)) ls
+
+taken : (n : ℕ) (net : Net) (l : List ℕ) (ls : List (List ℕ)) → readRows n net (l ∷ ls) .says .ok ≡ true → Taken n net l ls
+unfolding readRows
+taken n net l ls h = go (rowSays net (readRow l) .ok) refl h
+  where
+    go : (t : Bool) → rowSays net (readRow l) .ok ≡ t
+        → cond t (readRows (n + 1) (rowGives net (readRow l)) ls) (refusedAt (rowSays net (readRow l) .refusal) n) .says .ok ≡ true
+        → Taken n net l ls
+    go true e h = record { first = e; others = h; all = rw e }
+    go false e h = absurd (false-not-true refl h)
+
+pub rows-said : (n : ℕ) (net : Net) (ls : List (List ℕ)) → readRows n net ls .says .ok ≡ true → readRows n net ls .says ≡ accepted 0
+unfolding readRows
+rows-said n net [] h = refl
+rows-said n net (l ∷ ls) h =
+    let t = taken n net l ls h in
+    ap (λ (r : Reading). r .says) (t .all) ∙ rows-said (n + 1) (rowGives net (readRow l)) ls (t .others)
+
+row-start : (net : Net) (row : RowLine) → (rowGives net row .start ≡ net .start) × (rowGives net row .end ≡ net .end)
+row-start net (row-line.Set side a m) = (put-start net side a m, put-end net side a m)
+row-start net (row-line.Refused k) = (refl, refl)
+
+pub rows-ends : (n : ℕ) (net : Net) (ls : List (List ℕ)) → readRows n net ls .says .ok ≡ true → (readRows n net ls .net .start ≡ net .start) × (readRows n net ls .net .end ≡ net .end)
+unfolding readRows
+rows-ends n net [] h = (refl, refl)
+rows-ends n net (l ∷ ls) h =
+    let t = taken n net l ls h in
+    let f = rows-ends (n + 1) (rowGives net (readRow l)) ls (t .others) in
+    let g = row-start net (readRow l) in
+    (ap (λ (r : Reading). r .net .start) (t .all) ∙ f .0 ∙ g .0, ap (λ (r : Reading). r .net .end) (t .all) ∙ f .1 ∙ g .1)
+
+-- what one row that was put leaves on the sides
+row-holds : (net : Net) (row : RowLine) → rowSays net row .ok ≡ true → (side : Side) (a m : ℕ)
+    → OnSide (rowGives net row) side a m ↔ (OnSide net side a m ⊎ (row ≡ row-line.Set side a m))
+row-holds net (row-line.Refused k) ok side a m = absurd (false-not-true refl ok)
+row-holds net (row-line.Set s b x) ok side a m =
+    let f = put-on-side net s b x ok side a m in (
+      (λ i. ⊎-elim (λ j. inl j) (λ e. inr (rw (e .0, e .1, e .2))) (f .0 i)),
+      (λ w. f .1 (⊎-elim (λ j. inl j) (λ e. inr (sym (cc), sym (cc), sym (cc))) w)),
+    )
+
+-- a side holds what it held, and the sets of its rows
+pub rows-hold : (n : ℕ) (net : Net) (ls : List (List ℕ)) → readRows n net ls .says .ok ≡ true → (side : Side) (a m : ℕ)
+    → OnSide (readRows n net ls .net) side a m ↔ (OnSide net side a m ⊎ HasRow ls side a m)
+unfolding readRows
+rows-hold n net [] h side a m = ((λ i. inl i), (λ w. ⊎-elim (λ i. i) (λ r. absurd (List·Memᴰ·not-nil (r .there))) w))
+rows-hold n net (l ∷ ls) h side a m =
+    let t = taken n net l ls h in
+    let f = rows-hold (n + 1) (rowGives net (readRow l)) ls (t .others) side a m in
+    let g = row-holds net (readRow l) (t .first) side a m in (
+      (λ i. ⊎-elim (λ j. ⊎-elim (λ k. inl k) (λ e. inr (record { line = l; there = List·Memᴰ·head refl; is-row = e })) (g .0 j)) (λ r. inr (record { line = r .line; there = List·Memᴰ·tail (r .there); is-row = r .is-row })) (f .0 (rw (t .all) at i))),
+      (λ w. rw (t .all) (f .1 (⊎-elim (λ k. inl (g .1 (inl k))) (λ r. later (g .1) r (List·Memᴰ·cases-cons (r .there))) w))),
+    )
+  where
+    later : ((OnSide net side a m ⊎ (readRow l ≡ row-line.Set side a m)) → OnSide (rowGives net (readRow l)) side a m) → (r : HasRow (l ∷ ls) side a m) → (r .line ≡ l) ⊎ List·Memᴰ (r .line) ls
+        → OnSide (rowGives net (readRow l)) side a m ⊎ HasRow ls side a m
+    later g r (inl e) = inl (g (inr (ap readRow (sym e) ∙ r .is-row)))
+    later g r (inr u) = inr (record { line = r .line; there = u; is-row = r .is-row })
+
+-- ---- the lines before the rows
+
+-- the parts of a text that is accepted
+pub record Accepted (text : List ℕ) : Type 0 where
+  pub start : ℕ
+  pub end : ℕ
+  pub start-line : List ℕ
+  pub end-line : List ℕ
+  pub rows : List (List ℕ)
+  pub are-lines : lines text ≡ netHeader ∷ start-line ∷ end-line ∷ rows
+  pub start-read : readEnd startWord start-line ≡ Activity start
+  pub end-read : readEnd endWord end-line ≡ Activity end
+  pub ends : endsOk start end ≡ true
+  pub is-rows : readNet text ≡ readRows 4 (freshNet start end) rows
+  pub fine : readRows 4 (freshNet start end) rows .says .ok ≡ true
+
+pub accepted-parts : (text : List ℕ) → readNet text .says .ok ≡ true → Accepted text
+unfolding readNet fromHeader fromStart fromEnd
+accepted-parts text h = size (leb (length text) netBytes) refl
+  where
+    never : (n p : ℕ) → readNet text ≡ refusedAt n p → ⊥
+    never n p e = false-not-true (ap (λ (r : Reading). r .says .ok) e) h
+
+    ends : (start end : ℕ) (s e : List ℕ) (rs : List (List ℕ)) → readEnd startWord s ≡ Activity start → readEnd endWord e ≡ Activity end → lines text ≡ netHeader ∷ s ∷ e ∷ rs
+        → (t : Bool) → eqb start end ≡ t → readNet text ≡ cond t (refusedAt bad-ends 3) (readRows 4 (freshNet start end) rs) → Accepted text
+    ends start end s e rs p q ls true d u = absurd (never bad-ends 3 u)
+    ends start end s e rs p q ls false d u = record {
+      start = start;
+      end = end;
+      start-line = s;
+      end-line = e;
+      rows = rs;
+      are-lines = ls;
+      start-read = p;
+      end-read = q;
+      ends = facts-ends start end (end-activity startWord s start p) (end-activity endWord e end q) (eqb-false start end d);
+      is-rows = u;
+      fine = sym (ap (λ (r : Reading). r .says .ok) u) ∙ h;
+    }
+
+    third : (start : ℕ) (s e : List ℕ) (rs : List (List ℕ)) → readEnd startWord s ≡ Activity start → lines text ≡ netHeader ∷ s ∷ e ∷ rs
+        → (r : EndLine) → readEnd endWord e ≡ r → readNet text ≡ afterEnd start r rs → Accepted text
+    third start s e rs p ls (Activity end) q u = ends start end s e rs p q ls (eqb start end) refl u
+    third start s e rs p ls (Refused k) q u = absurd (never k 3 u)
+
+    from-third : (start : ℕ) (s : List ℕ) (rs : List (List ℕ)) → readEnd startWord s ≡ Activity start → lines text ≡ netHeader ∷ s ∷ rs → readNet text ≡ fromEnd start rs → Accepted text
+    from-third start s [] p ls u = absurd (never line-form 3 u)
+    from-third start s (e ∷ rs) p ls u = third start s e rs p ls (readEnd endWord e) refl u
+
+    second : (s : List ℕ) (rs : List (List ℕ)) → lines text ≡ netHeader ∷ s ∷ rs → (r : EndLine) → readEnd startWord s ≡ r → readNet text ≡ afterStart r rs → Accepted text
+    second s rs ls (Activity start) p u = from-third start s rs p ls u
+    second s rs ls (Refused k) p u = absurd (never k 2 u)
+
+    from-second : (rs : List (List ℕ)) → lines text ≡ netHeader ∷ rs → readNet text ≡ fromStart rs → Accepted text
+    from-second [] ls u = absurd (never line-form 2 u)
+    from-second (s ∷ rs) ls u = second s rs ls (readEnd startWord s) refl u
+
+    first : (l : List ℕ) (rs : List (List ℕ)) → lines text ≡ l ∷ rs → (t : Bool) → sameBytes l netHeader ≡ t → readNet text ≡ cond t (fromStart rs) (refusedAt line-form 1) → Accepted text
+    first l rs ls true t u = from-second rs (ls ∙ ap (λ (k : List ℕ). k ∷ rs) (same-equal l netHeader t)) u
+    first l rs ls false t u = absurd (never line-form 1 u)
+
+    from-first : (ls : List (List ℕ)) → lines text ≡ ls → readNet text ≡ fromHeader ls → Accepted text
+    from-first [] ls u = absurd (never line-form 1 u)
+    from-first (l ∷ rs) ls u = first l rs ls (sameBytes l netHeader) refl u
+
+    size : (t : Bool) → leb (length text) netBytes ≡ t → Accepted text
+    size true e = from-first (lines text) refl (rw e)
+    size false e = absurd (never too-long 0 (rw e))
+
+-- ---- a refused reading
+
+rows-refused : (n : ℕ) (net : Net) (ls : List (List ℕ)) → readRows n net ls .says .ok ≡ false → readRows n net ls .net ≡ freshNet 0 1
+unfolding readRows
+rows-refused n net [] h = absurd (false-not-true h refl)
+rows-refused n net (l ∷ ls) h = go (rowSays net (readRow l) .ok) (rows-refused (n + 1) (rowGives net (readRow l)) ls) h
+  where
+    go : (t : Bool) → (readRows (n + 1) (rowGives net (readRow l)) ls .says .ok ≡ false → readRows (n + 1) (rowGives net (readRow l)) ls .net ≡ freshNet 0 1)
+        → cond t (readRows (n + 1) (rowGives net (readRow l)) ls) (refusedAt (rowSays net (readRow l) .refusal) n) .says .ok ≡ false
+        → cond t (readRows (n + 1) (rowGives net (readRow l)) ls) (refusedAt (rowSays net (readRow l) .refusal) n) .net ≡ freshNet 0 1
+    go true ih h = ih h
+    go false ih h = refl
+
+pub read-refused : (text : List ℕ) → readNet text .says .ok ≡ false → readNet text .net ≡ freshNet 0 1
+unfolding readNet fromHeader fromStart fromEnd
+read-refused text h = whole (leb (length text) netBytes) (fromHeader (lines text)) too-long 0 (header (lines text)) h
+  where
+    Fresh : Reading → Type 0
+    Fresh r = r .says .ok ≡ false → r .net ≡ freshNet 0 1
+
+    whole : (t : Bool) (r : Reading) (n p : ℕ) → Fresh r → Fresh (cond t r (refusedAt n p))
+    whole true r n p f = f
+    whole false r n p f = λ q. refl
+
+    third : (start : ℕ) (r : EndLine) (ls : List (List ℕ)) → Fresh (afterEnd start r ls)
+    third start (Activity end) ls = equal (eqb start end)
+      where
+        equal : (t : Bool) → Fresh (cond t (refusedAt bad-ends 3) (readRows 4 (freshNet start end) ls))
+        equal true = λ q. refl
+        equal false = rows-refused 4 (freshNet start end) ls
+    third start (Refused k) ls = λ q. refl
+
+    from-third : (start : ℕ) (ls : List (List ℕ)) → Fresh (fromEnd start ls)
+    from-third start [] = λ q. refl
+    from-third start (l ∷ ls) = third start (readEnd endWord l) ls
+
+    second : (r : EndLine) (ls : List (List ℕ)) → Fresh (afterStart r ls)
+    second (Activity start) ls = from-third start ls
+    second (Refused k) ls = λ q. refl
+
+    from-second : (ls : List (List ℕ)) → Fresh (fromStart ls)
+    from-second [] = λ q. refl
+    from-second (l ∷ ls) = second (readEnd startWord l) ls
+
+    header : (ls : List (List ℕ)) → Fresh (fromHeader ls)
+    header [] = λ q. refl
+    header (l ∷ ls) = whole (sameBytes l netHeader) (fromStart ls) line-form 1 (from-second ls)

@@ -1,0 +1,48 @@
+-- Laws of putting a row's set: what a put on a side's arrays leaves is what put gives, and an orderly net stays orderly.
+-- Assumes nothing.
+use Prim.Native.Nat.{ℕ, _<_}
+use mathlib.Core.Path.{_≡_, refl, ap, _∙_}
+use mathlib.Core.Bool.{Bool, true, false, cond}
+use mathlib.Core.List.{List}
+use native.Mathlib.Omega.{arith}
+use Rattle.obligations.specs.Limits.{activities}
+use Rattle.net.specs.Refusals.{Says}
+use Rattle.net.specs.Sides.{masksOf, lengthsOf, emptyAt}
+use Rattle.net.specs.Orderly.{orderly}
+use Rattle.net.specs.Put.{putSaid, withSides, SideDone}
+use Rattle.net.specs.declared.Net.{Net}
+use Rattle.net.specs.declared.Side.{Side}
+use Rattle.net.specs.declared.PutAnswer.{PutAnswer}
+use Rattle.net.proofs.PutLaws.{put-done, put-orderly}
+use Rattle.netfile.specs.NetFile.{rowGives}
+use Rattle.netfile.specs.Steps.{rowPut, PutRow}
+use Rattle.netfile.specs.declared.line.RowLine.{RowLine}
+use Rattle.netfile.specs.declared.line.RowLine.the-variants as row-line
+use Rattle.netfile.specs.declared.read.RowPut.{RowPut}
+use Rattle.netfile.specs.declared.read.RowPut.the-variants as row-put
+
+pub put-row-done : (net : Net) (side : Side) (a m : ℕ) (r : PutAnswer) (p : RowPut) (masks lengths : List ℕ) → orderly net ≡ true → a < activities
+    → SideDone (masksOf net side) (lengthsOf net side) (emptyAt net side) a m r masks lengths → p ≡ rowPut (putSaid r)
+    → PutRow net (row-line.Set side a m) p (withSides net side masks lengths)
+put-row-done net side a m r p masks lengths o h d e =
+    let f = put-done net side a m r masks lengths o h d in
+    record { says = e ∙ ap rowPut (f .says); gives = f .gives }
+
+-- the test that the code makes of what was said
+pub row-put-ok : (s : Says) → rowPut s ≡ row-put.Put → s .ok ≡ true
+row-put-ok s e = go (s .ok) e
+  where
+    go : (t : Bool) → cond t row-put.Put (row-put.Refused (s .refusal)) ≡ row-put.Put → t ≡ true
+    go true e = refl
+    go false e = let z : _≡_ {A = ℕ} 0 1 = cc in absurd (omega arith)
+
+pub row-put-refused : (s : Says) (n : ℕ) → rowPut s ≡ row-put.Refused n → (s .ok ≡ false) × (s .refusal ≡ n)
+row-put-refused s n e = go (s .ok) e
+  where
+    go : (t : Bool) → cond t row-put.Put (row-put.Refused (s .refusal)) ≡ row-put.Refused n → (t ≡ false) × (s .refusal ≡ n)
+    go true e = let z : _≡_ {A = ℕ} 0 1 = cc in absurd (omega arith)
+    go false e = (refl, cc)
+
+pub row-orderly : (net : Net) (row : RowLine) → orderly net ≡ true → orderly (rowGives net row) ≡ true
+row-orderly net (row-line.Set side a m) o = put-orderly net side a m o
+row-orderly net (row-line.Refused n) o = o

@@ -1,0 +1,109 @@
+-- `read_rows` meets its contract. The loop's invariant: the arrays are those of an orderly net, and what the rows say is what the
+-- rows left say from that net on. Assumes nothing.
+use Prim.Native.Nat.{_+_, _-_, _≤_}
+use mathlib.Core.Path.{_≡_, refl, sym, _∙_}
+use mathlib.Core.Bool.{true}
+use borrow.Author.Needs.{needs}
+use denote.Ref.{now}
+use lib.ListN.{length, drop}
+use Rattle.text.specs.Lines.{lines, nextLine}
+use Rattle.net.specs.Orderly.{orderly}
+use Rattle.netfile.specs.NetFile.{readRows}
+use Rattle.netfile.specs.Steps.{netOf}
+use Rattle.netfile.proofs.RowLaws.{row-facts}
+use Rattle.netfile.proofs.PutRowLaws.{row-orderly}
+use Rattle.netfile.proofs.FileLaws.{rows-more, rows-bad, rows-end}
+use Rattle.netfile.proofs.read.read_rows.Statement.{statement}
+use Rattle.netfile.proofs.read.read_rows.Tie as tie
+
+abbrev Inv-loop : tie.InvT-loop
+Inv-loop text at net inputs₀ input-len₀ outputs₀ output-len₀ i₀ line₀ inputs input-len outputs output-len i line =
+    (i ≤ length text)
+    × (line ≤ i + 4)
+    × (orderly (netOf (net .start) (net .end) inputs input-len outputs output-len) ≡ true)
+    × (readRows 4 net (lines (drop at text)) ≡ readRows line (netOf (net .start) (net .end) inputs input-len outputs output-len) (lines (drop i text)))
+
+abbrev μ-loop : tie.MeasureT-loop
+μ-loop text at net inputs₀ input-len₀ outputs₀ output-len₀ i₀ line₀ inputs input-len outputs output-len i line = length text - i
+
+loop-holds : tie.Need-loop-holds Inv-loop μ-loop
+loop-holds c = (search needs, search needs, c .before .before .before .before .before .pre .2, refl)
+
+line-end-requires : tie.Need-line-end-requires Inv-loop μ-loop
+line-end-requires c κs = search needs
+
+row-line-requires : tie.Need-row-line-requires Inv-loop μ-loop
+row-line-requires c κs = search needs
+
+put-row-requires : tie.Need-put-row-requires Inv-loop μ-loop
+put-row-requires c κs = (c .before .before .before .before .before .before .before .loop .inv .2, λ side a m q. row-facts _ side a m (sym (c .before .before .before .before .row-line .ensures) ∙ q) .0)
+
+enum-known-put : tie.Need-enum-known-put Inv-loop μ-loop
+enum-known-put c = search needs
+
+refused-requires : tie.Need-refused-requires Inv-loop μ-loop
+refused-requires c κs = search needs
+
+returns : tie.Need-returns Inv-loop μ-loop
+returns c =
+    let a = c .before .before .before .before .before .before .before .before .before .before .before .before .before .before .before .before .before .before .args in
+    let net = a .net in
+    let l = c .before .before .before .before .before .before .before .before .before .before .before .before .loop in
+    let e = c .before .before .before .before .before .before .before .before .before .before .line-end in
+    let row = c .before .before .before .before .before .before .before .before .before .row-line in
+    let put = c .before .before .put .given in
+    rw (l .inv .3, rows-bad (now (a .text)) (l .i) (e .result) (nextLine (now (a .text)) (e .result)) (e .ensures .exact) refl (search needs) (l .line) (netOf (net .start) (net .end) (l .inputs) (l .input-len) (l .outputs) (l .output-len)) (row .result) (row .ensures) (put .0 .0) (sym (c .before .before .before .before .put-row .ensures .says) ∙ put .1))
+    (c .refused .ensures)
+
+enum-told : tie.Need-enum-told Inv-loop μ-loop
+enum-told c = search needs
+
+next-line-requires : tie.Need-next-line-requires Inv-loop μ-loop
+next-line-requires c κs = search needs
+
+add-line : tie.Need-add-line Inv-loop μ-loop
+add-line c = search needs
+
+loop-less : tie.Need-loop-less Inv-loop μ-loop
+loop-less c = search needs
+
+loop-again : tie.Need-loop-again Inv-loop μ-loop
+loop-again c =
+    let a = c .before .before .before .before .before .before .before .before .before .before .before .before .before .before .before .before .before .args in
+    let net = a .net in
+    let l = c .before .before .before .before .before .before .before .before .before .before .before .loop in
+    let e = c .before .before .before .before .before .before .before .before .before .line-end in
+    let row = c .before .before .before .before .before .before .before .before .row-line in
+    let put = c .before .before .before .put-row .ensures in (
+      search needs,
+      search needs,
+      rw (put .gives) (row-orderly (netOf (net .start) (net .end) (l .inputs) (l .input-len) (l .outputs) (l .output-len)) (row .result) (l .inv .2)),
+      l .inv .3 ∙ rows-more (now (a .text)) (l .i) (e .result) (c .next-line .result) (e .ensures .exact) (c .next-line .ensures) (search needs) (l .line) (netOf (net .start) (net .end) (l .inputs) (l .input-len) (l .outputs) (l .output-len)) (row .result) (row .ensures) _ (sym (put .says) ∙ c .before .enum-told .given .1) (put .gives),
+    )
+
+returns-2 : tie.Need-returns-2 Inv-loop μ-loop
+returns-2 c =
+    let a = c .before .before .before .before .before .before .before .args in
+    let net = a .net in
+    let l = c .before .loop in
+    rw (l .inv .3, rows-end (now (a .text)) (l .i) (l .line) (netOf (net .start) (net .end) (l .inputs) (l .input-len) (l .outputs) (l .output-len)) (search needs)) (record { says = refl; gives = refl })
+
+pub read-rows-spec : {M : Type 1} → statement M
+read-rows-spec =
+    tie.close
+    (tie.spec
+    Inv-loop
+    μ-loop
+    loop-holds
+    line-end-requires
+    row-line-requires
+    put-row-requires
+    enum-known-put
+    refused-requires
+    returns
+    enum-told
+    next-line-requires
+    add-line
+    loop-less
+    loop-again
+    returns-2)
