@@ -119,9 +119,33 @@ decimal-low (suc f) n h = rw (lt-ltb n 10 h)
 decimal-high : (f n : ℕ) → 10 ≤ n → length (decimal (suc f) n) ≡ suc (length (decimal f (n / 10)))
 decimal-high f n h = rw (le-ltb n 10 h) (length-append (decimal f (n / 10)) (digit n ∷ []) ∙ omega arith)
 
-pub number-below-100 : (n : ℕ) → n < 100 → length (printNumber n) ≤ 2
+-- one digit, or one more than the number without its last has
+last-digit : (t : Bool) (f n k : ℕ) → length (decimal f (n / 10)) ≤ k → length (cond t (digit n ∷ []) (decimal f (n / 10) ++ (digit n ∷ []))) ≤ suc k
+last-digit true f n k h = omega arith
+last-digit false f n k h = omega (arith, length-append (decimal f (n / 10)) (digit n ∷ []))
+
+decimal-below : (k f n : ℕ) → n < 10 ^ suc k → length (decimal f n) ≤ suc k
+decimal-below k zero n h = omega arith
+decimal-below zero (suc f) n h = let l : n < 10 = h in rw (lt-ltb n 10 l) (omega arith)
+decimal-below (suc k) (suc f) n h =
+    let u : n / 10 < 10 ^ suc k = omega (arith, pow-suc 10 (suc k)) in
+    last-digit (ltb n 10) f n (suc k) (decimal-below k f (n / 10) u)
+
+decimal-within : (f n : ℕ) → length (decimal f n) ≤ suc f
+decimal-within zero n = omega arith
+decimal-within (suc f) n = last-digit (ltb n 10) f n (suc f) (decimal-within f (n / 10))
+
+-- a number below 10 ^ (k + 1) has at most k + 1 digits, and no number more than 20
+pub number-below : (k n : ℕ) → n < 10 ^ suc k → length (printNumber n) ≤ suc k
 unfolding printNumber
-number-below-100 n h = ⊎-elim (λ l. omega (arith, decimal-low 19 n l)) (λ l. omega (arith, decimal-high 18 n l, decimal-low 18 (n / 10) (omega arith))) (lt-or-le n 10)
+number-below k n h = decimal-below k 19 n h
+
+pub number-within : (n : ℕ) → length (printNumber n) ≤ 20
+unfolding printNumber
+number-within n = decimal-within 19 n
+
+pub number-below-100 : (n : ℕ) → n < 100 → length (printNumber n) ≤ 2
+number-below-100 n h = number-below 1 n h
 
 -- width digits of n are counted up to the last of rest
 pub record Counting (n width rest : ℕ) : Type 0 where

@@ -1,0 +1,6 @@
+-- The laws of the definitions in specs/, by concept.
+pub mod AnswerLaws
+pub mod TextLaws
+pub mod StandingLaws
+pub mod RowLaws
+pub mod ReportLaws
