@@ -27,6 +27,11 @@ abbrev pub emptyAt : Net → Side → ℕ
 emptyAt net Input = net .start
 emptyAt net Output = net .end
 
+-- the net of these ends and arrays
+abbrev pub netOf : ℕ → ℕ → List ℕ → List ℕ → List ℕ → List ℕ → Net
+netOf start end inputs «input_len» outputs «output_len» =
+    record { start = start; end = end; inputs = inputs; outputs = outputs; «input_len» = «input_len»; «output_len» = «output_len» }
+
 -- arrays as long as the record's, with at most 16 sets on each side
 pub record Sides (masks lengths : List ℕ) : Type 0 where
   pub masks-long : length masks ≡ places

@@ -1,10 +1,10 @@
 // The causal net (paper 01, "The net and its sets", "Learning and containment"): the record, and the calls fresh, put and
 // contained. Each call takes every record and refuses what the paper refuses.
 
-pub mod containment;
+mod containment;
 mod lists;
-pub mod making;
-pub mod orderly;
+mod making;
+mod orderly;
 pub mod putting;
 pub mod refusal;
 

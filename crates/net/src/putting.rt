@@ -48,7 +48,7 @@ pub fn put(net: Net, side: Side, activity: u32, set: u32) -> PutResult
 }
 
 // Put of an activity's set into a net that was found orderly.
-pub fn put_orderly(mut net: Net, side: Side, a: u32, m: u32) -> PutResult
+fn put_orderly(mut net: Net, side: Side, a: u32, m: u32) -> PutResult
     requires { ⌜ (orderly net ≡ true) × (a < activities) ⌝ }
     ensures { λ r. ⌜ PutDone net side a m r ⌝ }
 {
@@ -113,7 +113,7 @@ pub fn put_side(
 }
 
 // Whether m is on activity a's side, in the arrays of the sides of one kind.
-pub fn on_side<'a>(masks: &'a [u32], lengths: &'a [u32], a: u32, m: u32) -> bool
+fn on_side<'a>(masks: &'a [u32], lengths: &'a [u32], a: u32, m: u32) -> bool
     requires { ⌜ (length (now masks) ≡ places) × (length (now lengths) ≡ activities) ⌝ }
     requires { ⌜ (a < activities) × (getD (now lengths) a 0 ≤ sets) ⌝ }
     ensures { λ r. ⌜ r ≡ listed m (sideIn (now (masks .entry)) (now (lengths .entry)) a) ⌝ }

@@ -2,7 +2,6 @@
 use Prim.Native.Nat.{ℕ, _<_}
 use mathlib.Core.Path.{_≡_}
 use mathlib.Core.Bool.{cond}
-use mathlib.Core.List.{List}
 use Rattle.obligations.specs.Limits.{activities}
 use Rattle.net.specs.Refusals.{Says}
 use Rattle.net.specs.declared.Net.{Net}
@@ -12,11 +11,6 @@ use Rattle.netfile.specs.declared.line.RowLine.{RowLine}
 use Rattle.netfile.specs.declared.line.RowLine.the-variants.{Set}
 use Rattle.netfile.specs.declared.read.RowPut.{RowPut}
 use Rattle.netfile.specs.declared.read.RowPut.the-variants.{Put, Refused}
-
--- a net from its parts
-abbrev pub netOf : ℕ → ℕ → List ℕ → List ℕ → List ℕ → List ℕ → Net
-netOf start end inputs «input_len» outputs «output_len» =
-    record { start = start; end = end; inputs = inputs; outputs = outputs; «input_len» = «input_len»; «output_len» = «output_len» }
 
 -- a row's set is of an activity
 abbrev pub OfActivity : RowLine → Type 0

@@ -24,11 +24,12 @@ ghost use Prim.Native.Nat.{_≤_, _<_};
 ghost use lib.ListN.{length, drop};
 ghost use Rattle.obligations.specs.Limits.{activities};
 ghost use Rattle.text.specs.Lines.{lines};
+ghost use Rattle.net.specs.Sides.{netOf};
 ghost use Rattle.net.specs.Put.{putSaid};
 ghost use Rattle.net.specs.Orderly.{orderly};
 ghost use Rattle.netfile.specs.Limits.{netBytes};
 ghost use Rattle.netfile.specs.NetFile.{Reads, refusedAt, readRows, fromEnd, fromStart, readNet};
-ghost use Rattle.netfile.specs.Steps.{netOf, OfActivity, rowPut, PutRow};
+ghost use Rattle.netfile.specs.Steps.{OfActivity, rowPut, PutRow};
 
 // Reads a net file.
 pub fn read_net(text: &[u8]) -> NetReading

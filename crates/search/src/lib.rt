@@ -5,7 +5,6 @@ mod backtrack;
 mod replaying;
 
 pub use replaying::replay;
-pub use replaying::replay_checked;
 pub use replaying::replay_lent;
 
 // How a replay ended, with the number of trials; or the refusal's number and the place that is returned with it.

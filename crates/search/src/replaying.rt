@@ -9,10 +9,10 @@ use net::refusal;
 use obligations::POSITIONS;
 use obligations::trace;
 ghost use mathlib.Core.Path.{_≡_};
-ghost use Rattle.net.specs.Sides.{Sides};
+ghost use Rattle.net.specs.Sides.{netOf, Sides};
 ghost use Rattle.search.specs.Trace.{fits, TraceFits};
 ghost use Rattle.search.specs.Replay.{replaySaid, CheckedDone, ReplayDone};
-ghost use Rattle.search.specs.Backtrack.{netOf, outcomeSaid};
+ghost use Rattle.search.specs.Backtrack.{outcomeSaid};
 
 // The replay of a trace in a net. Found: the sequence is at the buffer's front. No other answer changes the buffer.
 pub fn replay(net: Net, trace: &[u32], budget: u64, out: &mut [u32]) -> ReplayAnswer
@@ -59,7 +59,7 @@ fn fits(n: usize, room: usize) -> bool
 }
 
 // The replay of a trace in a net that has been checked.
-pub fn replay_checked(net: Net, trace: &[u32], budget: u64, out: &mut [u32]) -> ReplayAnswer
+fn replay_checked(net: Net, trace: &[u32], budget: u64, out: &mut [u32]) -> ReplayAnswer
     requires { ⌜ Sides (net .inputs) (net .«input_len») × Sides (net .outputs) (net .«output_len») ⌝ }
     requires { ⌜ TraceFits (now trace) (now out) ⌝ }
     ensures { λ r. ⌜ CheckedDone net (now (trace .entry)) budget r (now (out .entry)) (now (out .exit)) ⌝ }

@@ -4,7 +4,7 @@ use borrow.Author.Needs.{needs}
 use denote.Ref.{now}
 use Rattle.net.specs.declared.Side.the-variants.{Input, Output}
 use Rattle.net.proofs.OrderlyLaws.{orderly-arrays}
-use Rattle.netfile.specs.Steps.{netOf}
+use Rattle.net.specs.Sides.{netOf}
 use Rattle.netfile.proofs.PutRowLaws.{put-row-done}
 use Rattle.netfile.proofs.read.put_row.Statement.{statement}
 use Rattle.netfile.proofs.read.put_row.Tie as tie

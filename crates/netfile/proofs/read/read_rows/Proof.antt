@@ -7,9 +7,9 @@ use borrow.Author.Needs.{needs}
 use denote.Ref.{now}
 use lib.ListN.{length, drop}
 use Rattle.text.specs.Lines.{lines, nextLine}
+use Rattle.net.specs.Sides.{netOf}
 use Rattle.net.specs.Orderly.{orderly}
 use Rattle.netfile.specs.NetFile.{readRows}
-use Rattle.netfile.specs.Steps.{netOf}
 use Rattle.netfile.proofs.RowLaws.{row-facts}
 use Rattle.netfile.proofs.PutRowLaws.{row-orderly}
 use Rattle.netfile.proofs.FileLaws.{rows-more, rows-bad, rows-end}

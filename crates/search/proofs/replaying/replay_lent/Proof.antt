@@ -4,7 +4,7 @@ use mathlib.Core.Path.{sym, _∙_}
 use borrow.Author.Needs.{needs, zero≤}
 use borrow.Author.Tests.{not-true, not-false}
 use Rattle.obligations.proofs.StateLaws.{nothing-state}
-use Rattle.search.specs.Backtrack.{netOf}
+use Rattle.net.specs.Sides.{netOf}
 use Rattle.search.proofs.TraceLaws.{shaped-ones}
 use Rattle.search.proofs.ReplayLaws.{unshaped-done, shaped-done}
 use Rattle.search.proofs.replaying.replay_lent.Statement.{statement}

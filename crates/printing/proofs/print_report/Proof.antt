@@ -1,26 +1,20 @@
--- `main` meets its contract: the report is no longer than its buffer. Assumes nothing.
+-- `print_report` meets its contract: the report is no longer than its buffer. Assumes nothing.
 use mathlib.Core.Path.{sym}
 use native.Mathlib.Omega.{arith}
 use borrow.Author.Needs.{needs}
 use lib.Seq.{length-take-le}
 use Rattle.report.proofs.ReportLaws.{wrote-short}
-use Rattle.replay.proofs.main.Statement.{statement}
-use Rattle.replay.proofs.main.Tie as tie
+use Rattle.printing.proofs.print_report.Statement.{statement}
+use Rattle.printing.proofs.print_report.Tie as tie
 
 slice-aggregate-read-file : tie.Need-slice-aggregate-read-file
 slice-aggregate-read-file c = search needs
 
-slice-aggregate-read-file-2 : tie.Need-slice-aggregate-read-file-2
-slice-aggregate-read-file-2 c = search needs
-
 read-file-requires : tie.Need-read-file-requires
 read-file-requires c κs = search needs
 
-slice-aggregate-read-file-3 : tie.Need-slice-aggregate-read-file-3
-slice-aggregate-read-file-3 c = search needs
-
-slice-aggregate-read-file-4 : tie.Need-slice-aggregate-read-file-4
-slice-aggregate-read-file-4 c = search needs
+slice-aggregate-read-file-2 : tie.Need-slice-aggregate-read-file-2
+slice-aggregate-read-file-2 c = search needs
 
 read-file-requires-2 : tie.Need-read-file-requires-2
 read-file-requires-2 c κs = search needs
@@ -55,15 +49,13 @@ write-all-requires c κs = search needs
 returns : tie.Need-returns
 returns c = search needs
 
-pub main-spec : {M : Type 1} → statement M
-main-spec =
+pub print-report-spec : {M : Type 1} → statement M
+print-report-spec =
     tie.close
     (tie.spec
     slice-aggregate-read-file
-    slice-aggregate-read-file-2
     read-file-requires
-    slice-aggregate-read-file-3
-    slice-aggregate-read-file-4
+    slice-aggregate-read-file-2
     read-file-requires-2
     array-share-prefix-net
     slice-aggregate-report
