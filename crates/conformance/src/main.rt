@@ -1,0 +1,6 @@
+// Runs a script of calls on standard input; its answers are compared with those of an independent implementation of paper
+// 01.
+
+fn main() {
+    script::run_script();
+}

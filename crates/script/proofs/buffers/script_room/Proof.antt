@@ -1,0 +1,12 @@
+-- `script_room` meets its contract. Assumes nothing.
+use Prim.Native.Nat.{ℕ}
+use mathlib.Core.Path.{sym}
+use lib.ListN.{length-replicate}
+use Rattle.script.proofs.buffers.script_room.Statement.{statement}
+use Rattle.script.proofs.buffers.script_room.Tie as tie
+
+returns : tie.Need-returns
+returns c = sym (length-replicate {A = ℕ} 4194305 0)
+
+pub script-room-spec : {M : Type 1} → statement M
+script-room-spec = tie.close (tie.spec returns)

@@ -1,0 +1,184 @@
+// The four registers of net records, in one array of words. The words of a record are its start, its end, the lengths of
+// the input lists and of the output lists by activity, the input masks and the output masks.
+
+use crate::answer::Answer;
+use net::Net;
+ghost use Prim.Native.Nat.{_+_, _*_, _≤_, _<_};
+ghost use lib.ListN.{length};
+
+pub const REGISTERS: u64 = 4;
+
+// A record has this many words.
+const WORDS: u64 = 1090;
+
+const INPUT_LEN: usize = 2;
+
+const OUTPUT_LEN: usize = 34;
+
+const INPUTS: usize = 66;
+
+const OUTPUTS: usize = 578;
+
+// A word has 32 bits.
+pub const MOST_WORD: u64 = 4294967295;
+
+// Where register r stands.
+fn place(r: u64) -> usize
+    requires { ⌜ r < 4 ⌝ }
+    ensures { λ p. ⌜ p + 1090 ≤ 4360 ⌝ }
+{
+    (r * WORDS) as usize
+}
+
+// The record in register r.
+pub fn load(records: &[u32; 4360], r: u64) -> Net
+    requires { ⌜ r < 4 ⌝ }
+{
+    let at = place(r);
+    let mut input_len = [0u32; 32];
+    let mut output_len = [0u32; 32];
+    let mut inputs = [0u32; 512];
+    let mut outputs = [0u32; 512];
+    copy_words(records, at + INPUT_LEN, &mut input_len, 0, 32);
+    copy_words(records, at + OUTPUT_LEN, &mut output_len, 0, 32);
+    copy_words(records, at + INPUTS, &mut inputs, 0, 512);
+    copy_words(records, at + OUTPUTS, &mut outputs, 0, 512);
+    Net {
+        start: records[at],
+        end: records[at + 1],
+        inputs,
+        outputs,
+        input_len,
+        output_len,
+    }
+}
+
+// Register r becomes a record.
+pub fn store(records: &mut [u32; 4360], r: u64, net: Net)
+    requires { ⌜ r < 4 ⌝ }
+{
+    let at = place(r);
+    records[at] = net.start;
+    records[at + 1] = net.end;
+    copy_words(&net.input_len, 0, records, at + INPUT_LEN, 32);
+    copy_words(&net.output_len, 0, records, at + OUTPUT_LEN, 32);
+    copy_words(&net.inputs, 0, records, at + INPUTS, 512);
+    copy_words(&net.outputs, 0, records, at + OUTPUTS, 512);
+}
+
+// Each register becomes the fresh net of 0 and 1.
+pub fn clear(records: &mut [u32; 4360]) {
+    let made = net::fresh(0, 1);
+    store(records, 0, made.net);
+    store(records, 1, made.net);
+    store(records, 2, made.net);
+    store(records, 3, made.net);
+}
+
+// poke R I V: word I of register R becomes V.
+pub fn poke(records: &mut [u32; 4360], numbers: &[u64]) -> Answer {
+    if numbers.len() != 3 {
+        return Answer::Bad;
+    }
+    let r = numbers[0];
+    let i = numbers[1];
+    let v = numbers[2];
+    if REGISTERS <= r {
+        return Answer::Bad;
+    }
+    if WORDS <= i {
+        return Answer::Bad;
+    }
+    if MOST_WORD < v {
+        return Answer::Bad;
+    }
+    records[place(r) + i as usize] = v as u32;
+    Answer::Done
+}
+
+// peek R I N: N words of register R from I on.
+pub fn peek(records: &[u32; 4360], numbers: &[u64], words: &mut [u32]) -> Answer {
+    if numbers.len() != 3 {
+        return Answer::Bad;
+    }
+    let r = numbers[0];
+    let i = numbers[1];
+    let n = numbers[2];
+    if REGISTERS <= r {
+        return Answer::Bad;
+    }
+    if WORDS < i {
+        return Answer::Bad;
+    }
+    if WORDS - i < n {
+        return Answer::Bad;
+    }
+    let count = n as usize;
+    if words.len() < count {
+        return Answer::Bad;
+    }
+    copy_words(records, place(r) + i as usize, words, 0, count);
+    Answer::Words { count }
+}
+
+// copy R S: register R becomes register S.
+pub fn copy(records: &mut [u32; 4360], numbers: &[u64]) -> Answer {
+    if numbers.len() != 2 {
+        return Answer::Bad;
+    }
+    let r = numbers[0];
+    let s = numbers[1];
+    if REGISTERS <= r {
+        return Answer::Bad;
+    }
+    if REGISTERS <= s {
+        return Answer::Bad;
+    }
+    let net = load(records, s);
+    store(records, r, net);
+    Answer::Done
+}
+
+// same R S: whether two registers are equal in every word.
+pub fn same(records: &[u32; 4360], numbers: &[u64]) -> Answer {
+    if numbers.len() != 2 {
+        return Answer::Bad;
+    }
+    let r = numbers[0];
+    let s = numbers[1];
+    if REGISTERS <= r {
+        return Answer::Bad;
+    }
+    if REGISTERS <= s {
+        return Answer::Bad;
+    }
+    let equal = are_same(records, place(r), place(s));
+    Answer::Value {
+        value: equal as u64,
+    }
+}
+
+// Whether the records at two places are equal in every word.
+fn are_same(records: &[u32; 4360], p: usize, q: usize) -> bool
+    requires { ⌜ (p + 1090 ≤ 4360) × (q + 1090 ≤ 4360) ⌝ }
+{
+    let mut k = 0;
+    while k < WORDS as usize {
+        if records[p + k] != records[q + k] {
+            return false;
+        }
+        k += 1;
+    }
+    true
+}
+
+// Copies n words.
+fn copy_words(from: &[u32], at: usize, to: &mut [u32], start: usize, n: usize)
+    requires { ⌜ (at + n ≤ length (now from)) × (start + n ≤ length (now to)) ⌝ }
+{
+    let mut k = 0;
+    while k < n {
+        to[start + k] = from[at + k];
+        k += 1;
+    }
+}
