@@ -3,14 +3,18 @@
 use crate::answer::Answer;
 use crate::net_calls;
 use crate::registers;
+use crate::registers::REGISTERS;
 use crate::sequence_calls;
 use crate::table_calls;
 use text::bytes::count_byte;
 use text::bytes::find_byte;
 use text::bytes::same_bytes;
-ghost use Prim.Native.Nat.{_≤_};
+ghost use Prim.Native.Nat.{_≤_, _<_};
 ghost use lib.ListN.{length};
 ghost use Rattle.io.specs.Counts.{Counts};
+
+// A word has 32 bits.
+const MOST_WORD: u64 = 4294967295;
 
 // The most that 64 bits hold, and that without its last digit.
 const MOST: u64 = 18446744073709551615;
@@ -56,7 +60,7 @@ pub fn run_line(
     if same_bytes(script, i, w, b"writenet") {
         return table_calls::writenet(records, &numbers[..n], text, text_len, bytes);
     }
-    run_reading(
+    run_command(
         script,
         i,
         w,
@@ -67,8 +71,9 @@ pub fn run_line(
     )
 }
 
-// The commands that leave the text register alone.
-fn run_reading(
+// Runs the command of the word script[i..w], one that leaves the text register as it is. But for `show` and `readrow` its
+// first number is a register's.
+fn run_command(
     script: &[u8],
     i: usize,
     w: usize,
@@ -79,81 +84,130 @@ fn run_reading(
 ) -> Answer
     requires { ⌜ (i ≤ w) × (w ≤ length (now script)) ⌝ }
 {
-    if same_bytes(script, i, w, b"readnet") {
-        return table_calls::readnet(records, numbers, text);
+    if same_bytes(script, i, w, b"show") {
+        return table_calls::show(numbers);
     }
     if same_bytes(script, i, w, b"readrow") {
         return table_calls::readrow(numbers, text, words);
     }
-    if same_bytes(script, i, w, b"show") {
-        return table_calls::show(numbers);
+    if numbers.len() < 1 {
+        return Answer::Bad;
+    }
+    let first = numbers[0];
+    if REGISTERS as u64 <= first {
+        return Answer::Bad;
+    }
+    let r = first as u32;
+    if same_bytes(script, i, w, b"replay") {
+        return sequence_calls::replay(records, r, numbers, words);
+    }
+    let mut args = [0u32; 1024];
+    let n = words_from(numbers, 1, &mut args);
+    if n != numbers.len() - 1 {
+        return Answer::Bad;
+    }
+    if same_bytes(script, i, w, b"readnet") {
+        return table_calls::readnet(records, r, &args[..n], text);
+    }
+    run_on_record(script, i, w, records, r, &args[..n], words)
+}
+
+// The commands on registers alone: those that are no calls, and those that call on a net.
+fn run_on_record(
+    script: &[u8],
+    i: usize,
+    w: usize,
+    records: &mut [u32; 4360],
+    r: u32,
+    args: &[u32],
+    words: &mut [u32],
+) -> Answer
+    requires { ⌜ (i ≤ w) × (w ≤ length (now script)) × (r < 4) ⌝ }
+{
+    if same_bytes(script, i, w, b"poke") {
+        return registers::poke(records, r, args);
     }
     if same_bytes(script, i, w, b"peek") {
-        return registers::peek(records, numbers, words);
-    }
-    if same_bytes(script, i, w, b"replay") {
-        return sequence_calls::replay(records, numbers, words);
-    }
-    run_on_records(script, i, w, numbers, records)
-}
-
-// The commands on records alone.
-fn run_on_records(
-    script: &[u8],
-    i: usize,
-    w: usize,
-    numbers: &[u64],
-    records: &mut [u32; 4360],
-) -> Answer
-    requires { ⌜ (i ≤ w) × (w ≤ length (now script)) ⌝ }
-{
-    if same_bytes(script, i, w, b"fresh") {
-        return net_calls::fresh(records, numbers);
-    }
-    if same_bytes(script, i, w, b"put") {
-        return net_calls::put(records, numbers);
-    }
-    if same_bytes(script, i, w, b"poke") {
-        return registers::poke(records, numbers);
+        return registers::peek(records, r, args, words);
     }
     if same_bytes(script, i, w, b"copy") {
-        return registers::copy(records, numbers);
+        return registers::copy(records, r, args);
     }
     if same_bytes(script, i, w, b"same") {
-        return registers::same(records, numbers);
+        return registers::same(records, r, args);
     }
-    if same_bytes(script, i, w, b"contained") {
-        return net_calls::contained(records, numbers);
-    }
-    if same_bytes(script, i, w, b"check") {
-        return net_calls::check(records, numbers);
-    }
-    run_on_sequences(script, i, w, numbers, records)
+    run_on_net(script, i, w, records, r, args)
 }
 
-// The commands that take a sequence or a trace, but for replay.
-fn run_on_sequences(
+fn run_on_net(
     script: &[u8],
     i: usize,
     w: usize,
-    numbers: &[u64],
     records: &mut [u32; 4360],
+    r: u32,
+    args: &[u32],
 ) -> Answer
-    requires { ⌜ (i ≤ w) × (w ≤ length (now script)) ⌝ }
+    requires { ⌜ (i ≤ w) × (w ≤ length (now script)) × (r < 4) ⌝ }
+{
+    if same_bytes(script, i, w, b"fresh") {
+        return net_calls::fresh(records, r, args);
+    }
+    if same_bytes(script, i, w, b"put") {
+        return net_calls::put(records, r, args);
+    }
+    if same_bytes(script, i, w, b"contained") {
+        return net_calls::contained(records, r, args);
+    }
+    if same_bytes(script, i, w, b"check") {
+        return net_calls::check(records, r, args);
+    }
+    run_on_sequence(script, i, w, records, r, args)
+}
+
+fn run_on_sequence(
+    script: &[u8],
+    i: usize,
+    w: usize,
+    records: &mut [u32; 4360],
+    r: u32,
+    args: &[u32],
+) -> Answer
+    requires { ⌜ (i ≤ w) × (w ≤ length (now script)) × (r < 4) ⌝ }
 {
     if same_bytes(script, i, w, b"judge") {
-        return sequence_calls::judge(records, numbers);
+        return sequence_calls::judge(records, r, args);
     }
     if same_bytes(script, i, w, b"peak") {
-        return sequence_calls::peak(records, numbers);
+        return sequence_calls::peak(records, r, args);
     }
     if same_bytes(script, i, w, b"learn") {
-        return sequence_calls::learn(records, numbers);
+        return sequence_calls::learn(records, r, args);
     }
     if same_bytes(script, i, w, b"follow") {
-        return sequence_calls::follow(records, numbers);
+        return sequence_calls::follow(records, r, args);
     }
     Answer::Bad
+}
+
+// Copies the numbers from index `from` on, as words, and returns how many it copied: it stops at one that is no word.
+pub fn words_from(numbers: &[u64], from: usize, words: &mut [u32]) -> usize
+    ensures { λ r. ⌜ Counts r (now (words .exit)) ⌝ }
+{
+    let mut n = 0;
+    let mut i = from;
+    while i < numbers.len() {
+        if words.len() <= n {
+            return n;
+        }
+        let number = numbers[i];
+        if MOST_WORD < number {
+            return n;
+        }
+        words[n] = number as u32;
+        n += 1;
+        i += 1;
+    }
+    n
 }
 
 // Reads the numbers of script[w..e], each behind one space, and returns how many it read: it stops at a field that is no

@@ -6,10 +6,10 @@ use net::Net;
 ghost use Prim.Native.Nat.{_+_, _*_, _≤_, _<_};
 ghost use lib.ListN.{length};
 
-pub const REGISTERS: u64 = 4;
+pub const REGISTERS: u32 = 4;
 
 // A record has this many words.
-const WORDS: u64 = 1090;
+const WORDS: u32 = 1090;
 
 const INPUT_LEN: usize = 2;
 
@@ -19,11 +19,8 @@ const INPUTS: usize = 66;
 
 const OUTPUTS: usize = 578;
 
-// A word has 32 bits.
-pub const MOST_WORD: u64 = 4294967295;
-
 // Where register r stands.
-fn place(r: u64) -> usize
+fn place(r: u32) -> usize
     requires { ⌜ r < 4 ⌝ }
     ensures { λ p. ⌜ p + 1090 ≤ 4360 ⌝ }
 {
@@ -31,7 +28,7 @@ fn place(r: u64) -> usize
 }
 
 // The record in register r.
-pub fn load(records: &[u32; 4360], r: u64) -> Net
+pub fn load(records: &[u32; 4360], r: u32) -> Net
     requires { ⌜ r < 4 ⌝ }
 {
     let at = place(r);
@@ -54,7 +51,7 @@ pub fn load(records: &[u32; 4360], r: u64) -> Net
 }
 
 // Register r becomes a record.
-pub fn store(records: &mut [u32; 4360], r: u64, net: Net)
+pub fn store(records: &mut [u32; 4360], r: u32, net: Net)
     requires { ⌜ r < 4 ⌝ }
 {
     let at = place(r);
@@ -76,37 +73,29 @@ pub fn clear(records: &mut [u32; 4360]) {
 }
 
 // poke R I V: word I of register R becomes V.
-pub fn poke(records: &mut [u32; 4360], numbers: &[u64]) -> Answer {
-    if numbers.len() != 3 {
+pub fn poke(records: &mut [u32; 4360], r: u32, args: &[u32]) -> Answer
+    requires { ⌜ r < 4 ⌝ }
+{
+    if args.len() != 2 {
         return Answer::Bad;
     }
-    let r = numbers[0];
-    let i = numbers[1];
-    let v = numbers[2];
-    if REGISTERS <= r {
-        return Answer::Bad;
-    }
+    let i = args[0];
     if WORDS <= i {
         return Answer::Bad;
     }
-    if MOST_WORD < v {
-        return Answer::Bad;
-    }
-    records[place(r) + i as usize] = v as u32;
+    records[place(r) + i as usize] = args[1];
     Answer::Done
 }
 
 // peek R I N: N words of register R from I on.
-pub fn peek(records: &[u32; 4360], numbers: &[u64], words: &mut [u32]) -> Answer {
-    if numbers.len() != 3 {
+pub fn peek(records: &[u32; 4360], r: u32, args: &[u32], words: &mut [u32]) -> Answer
+    requires { ⌜ r < 4 ⌝ }
+{
+    if args.len() != 2 {
         return Answer::Bad;
     }
-    let r = numbers[0];
-    let i = numbers[1];
-    let n = numbers[2];
-    if REGISTERS <= r {
-        return Answer::Bad;
-    }
+    let i = args[0];
+    let n = args[1];
     if WORDS < i {
         return Answer::Bad;
     }
@@ -122,15 +111,13 @@ pub fn peek(records: &[u32; 4360], numbers: &[u64], words: &mut [u32]) -> Answer
 }
 
 // copy R S: register R becomes register S.
-pub fn copy(records: &mut [u32; 4360], numbers: &[u64]) -> Answer {
-    if numbers.len() != 2 {
+pub fn copy(records: &mut [u32; 4360], r: u32, args: &[u32]) -> Answer
+    requires { ⌜ r < 4 ⌝ }
+{
+    if args.len() != 1 {
         return Answer::Bad;
     }
-    let r = numbers[0];
-    let s = numbers[1];
-    if REGISTERS <= r {
-        return Answer::Bad;
-    }
+    let s = args[0];
     if REGISTERS <= s {
         return Answer::Bad;
     }
@@ -140,15 +127,13 @@ pub fn copy(records: &mut [u32; 4360], numbers: &[u64]) -> Answer {
 }
 
 // same R S: whether two registers are equal in every word.
-pub fn same(records: &[u32; 4360], numbers: &[u64]) -> Answer {
-    if numbers.len() != 2 {
+pub fn same(records: &[u32; 4360], r: u32, args: &[u32]) -> Answer
+    requires { ⌜ r < 4 ⌝ }
+{
+    if args.len() != 1 {
         return Answer::Bad;
     }
-    let r = numbers[0];
-    let s = numbers[1];
-    if REGISTERS <= r {
-        return Answer::Bad;
-    }
+    let s = args[0];
     if REGISTERS <= s {
         return Answer::Bad;
     }

@@ -1,11 +1,11 @@
-// Commands that call judge, learn, follow and replay. The words of the sequence or trace are the last numbers of the line.
+// Commands that call judge, learn, follow and replay, on register r. The words of the sequence or trace are the last
+// numbers of the line.
 
 use crate::answer::Answer;
 use crate::answer::refused;
 use crate::buffers::fill_words;
 use crate::buffers::words_untouched;
-use crate::registers::MOST_WORD;
-use crate::registers::REGISTERS;
+use crate::line::words_from;
 use crate::registers::load;
 use crate::registers::store;
 use net::Net;
@@ -15,11 +15,12 @@ use sequences::LearnAnswer;
 use sequences::LearnResult;
 ghost use Prim.Native.Nat.{_≤_, _<_};
 ghost use lib.ListN.{length};
-ghost use Rattle.io.specs.Counts.{Counts};
 
 // judge R W W ..: judges the sequence of these words.
-pub fn judge(records: &[u32; 4360], numbers: &[u64]) -> Answer {
-    let answer = peak(records, numbers);
+pub fn judge(records: &[u32; 4360], r: u32, words: &[u32]) -> Answer
+    requires { ⌜ r < 4 ⌝ }
+{
+    let answer = peak(records, r, words);
     match answer {
         Answer::Value { value: _ } => Answer::Done,
         _ => answer,
@@ -27,20 +28,10 @@ pub fn judge(records: &[u32; 4360], numbers: &[u64]) -> Answer {
 }
 
 // peak R W W ..: the same; the answer has the peak.
-pub fn peak(records: &[u32; 4360], numbers: &[u64]) -> Answer {
-    if numbers.len() < 1 {
-        return Answer::Bad;
-    }
-    let r = numbers[0];
-    if REGISTERS <= r {
-        return Answer::Bad;
-    }
-    let mut words = [0u32; 1024];
-    let n = words_from(numbers, 1, &mut words);
-    if n != numbers.len() - 1 {
-        return Answer::Bad;
-    }
-    let answer = sequences::judge(load(records, r), &words[..n]);
+pub fn peak(records: &[u32; 4360], r: u32, words: &[u32]) -> Answer
+    requires { ⌜ r < 4 ⌝ }
+{
+    let answer = sequences::judge(load(records, r), words);
     match answer {
         JudgeAnswer::Judged { peak } => Answer::Value { value: peak as u64 },
         JudgeAnswer::Refused { number, place } => refused(number, place),
@@ -48,43 +39,23 @@ pub fn peak(records: &[u32; 4360], numbers: &[u64]) -> Answer {
 }
 
 // learn R W W ..: learns the sequence; R becomes what it returns.
-pub fn learn(records: &mut [u32; 4360], numbers: &[u64]) -> Answer {
-    if numbers.len() < 1 {
-        return Answer::Bad;
-    }
-    let r = numbers[0];
-    if REGISTERS <= r {
-        return Answer::Bad;
-    }
-    let mut words = [0u32; 1024];
-    let n = words_from(numbers, 1, &mut words);
-    if n != numbers.len() - 1 {
-        return Answer::Bad;
-    }
-    let done = sequences::learn(load(records, r), &words[..n]);
+pub fn learn(records: &mut [u32; 4360], r: u32, words: &[u32]) -> Answer
+    requires { ⌜ r < 4 ⌝ }
+{
+    let done = sequences::learn(load(records, r), words);
     learned(records, r, done)
 }
 
 // follow R T T ..: follows the trace; R becomes what it returns.
-pub fn follow(records: &mut [u32; 4360], numbers: &[u64]) -> Answer {
-    if numbers.len() < 1 {
-        return Answer::Bad;
-    }
-    let r = numbers[0];
-    if REGISTERS <= r {
-        return Answer::Bad;
-    }
-    let mut trace = [0u32; 1024];
-    let n = words_from(numbers, 1, &mut trace);
-    if n != numbers.len() - 1 {
-        return Answer::Bad;
-    }
-    let done = sequences::follow(load(records, r), &trace[..n]);
+pub fn follow(records: &mut [u32; 4360], r: u32, trace: &[u32]) -> Answer
+    requires { ⌜ r < 4 ⌝ }
+{
+    let done = sequences::follow(load(records, r), trace);
     learned(records, r, done)
 }
 
 // Register r becomes the net that a learn or a follow returned.
-fn learned(records: &mut [u32; 4360], r: u64, done: LearnResult) -> Answer
+fn learned(records: &mut [u32; 4360], r: u32, done: LearnResult) -> Answer
     requires { ⌜ r < 4 ⌝ }
 {
     store(records, r, done.net);
@@ -96,16 +67,13 @@ fn learned(records: &mut [u32; 4360], r: u64, done: LearnResult) -> Answer
 }
 
 // replay R BUDGET N T T ..: replays the trace with a buffer of N words.
-pub fn replay(records: &[u32; 4360], numbers: &[u64], words: &mut [u32]) -> Answer {
+pub fn replay(records: &[u32; 4360], r: u32, numbers: &[u64], words: &mut [u32]) -> Answer
+    requires { ⌜ r < 4 ⌝ }
+{
     if numbers.len() < 3 {
         return Answer::Bad;
     }
-    let r = numbers[0];
-    let budget = numbers[1];
     let room = numbers[2] as usize;
-    if REGISTERS <= r {
-        return Answer::Bad;
-    }
     if words.len() < room {
         return Answer::Bad;
     }
@@ -114,7 +82,12 @@ pub fn replay(records: &[u32; 4360], numbers: &[u64], words: &mut [u32]) -> Answ
     if n != numbers.len() - 3 {
         return Answer::Bad;
     }
-    replay_with(load(records, r), &trace[..n], budget, &mut words[..room])
+    replay_with(
+        load(records, r),
+        &trace[..n],
+        numbers[1],
+        &mut words[..room],
+    )
 }
 
 // Replays a trace with this buffer.
@@ -143,25 +116,4 @@ fn replay_with(net: Net, trace: &[u32], budget: u64, words: &mut [u32]) -> Answe
             changed: !words_untouched(words, 0),
         },
     }
-}
-
-// Copies the numbers from index `from` on, as words, and returns how many it copied: it stops at one that is no word.
-fn words_from(numbers: &[u64], from: usize, words: &mut [u32]) -> usize
-    ensures { λ r. ⌜ Counts r (now (words .exit)) ⌝ }
-{
-    let mut n = 0;
-    let mut i = from;
-    while i < numbers.len() {
-        if words.len() <= n {
-            return n;
-        }
-        let number = numbers[i];
-        if MOST_WORD < number {
-            return n;
-        }
-        words[n] = number as u32;
-        n += 1;
-        i += 1;
-    }
-    n
 }

@@ -15,16 +15,14 @@ use net::Net;
 use netfile::NetAnswer;
 use netfile::WriteAnswer;
 use text::bytes::write_bytes;
-ghost use Prim.Native.Nat.{_≤_};
+ghost use Prim.Native.Nat.{_≤_, _<_};
 ghost use lib.ListN.{length};
 
 // readnet R: reads the text as a net file; R becomes what it returns.
-pub fn readnet(records: &mut [u32; 4360], numbers: &[u64], text: &[u8]) -> Answer {
-    if numbers.len() != 1 {
-        return Answer::Bad;
-    }
-    let r = numbers[0];
-    if REGISTERS <= r {
+pub fn readnet(records: &mut [u32; 4360], r: u32, args: &[u32], text: &[u8]) -> Answer
+    requires { ⌜ r < 4 ⌝ }
+{
+    if args.len() != 0 {
         return Answer::Bad;
     }
     let read = netfile::read_net(text);
@@ -52,13 +50,13 @@ pub fn writenet(
     }
     let r = numbers[0];
     let room = numbers[1] as usize;
-    if REGISTERS <= r {
+    if REGISTERS as u64 <= r {
         return Answer::Bad;
     }
     if bytes.len() < room {
         return Answer::Bad;
     }
-    let answer = write_with(load(records, r), &mut bytes[..room]);
+    let answer = write_with(load(records, r as u32), &mut bytes[..room]);
     if let Answer::Written { length, changed: _ } = answer {
         let n = length as usize;
         if n <= bytes.len() {

@@ -1,4 +1,5 @@
--- `run_lines` meets its contract. Assumes nothing.
+-- `run_lines` meets its contract: the text and the bytes gathered stay within their buffers, and each line starts
+-- behind the one before. Assumes nothing.
 use Prim.Native.Nat.{_-_, _≤_}
 use mathlib.Core.Path.{_≡_, sym}
 use borrow.Author.Needs.{needs}

@@ -1,4 +1,4 @@
--- `write_words` meets its contract. Assumes nothing.
+-- `write_words` meets its contract: the words written are at most those that there are. Assumes nothing.
 use mathlib.Core.Path.{sym}
 use borrow.Author.Needs.{needs}
 use lib.Seq.{length-take-le}

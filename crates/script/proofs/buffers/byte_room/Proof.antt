@@ -1,4 +1,4 @@
--- `byte_room` meets its contract. Assumes nothing.
+-- `byte_room` meets its contract: an array of n equal elements has n. Assumes nothing.
 use Prim.Native.Nat.{ℕ}
 use mathlib.Core.Path.{sym}
 use lib.ListN.{length-replicate}

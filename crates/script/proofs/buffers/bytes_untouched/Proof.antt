@@ -1,4 +1,4 @@
--- `bytes_untouched` meets its contract. Assumes nothing.
+-- `bytes_untouched` meets its contract: the index is below the length where a byte is read. Assumes nothing.
 use Prim.Native.Nat.{_-_, _≤_}
 use borrow.Author.Needs.{needs}
 use lib.ListN.{length}

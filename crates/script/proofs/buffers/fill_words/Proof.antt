@@ -1,4 +1,4 @@
--- `fill_words` meets its contract. Assumes nothing.
+-- `fill_words` meets its contract: storing keeps the length. Assumes nothing.
 use Prim.Native.Nat.{_-_}
 use mathlib.Core.Path.{_≡_}
 use borrow.Author.Needs.{needs}

@@ -1,4 +1,5 @@
--- `script_room` meets its contract. Assumes nothing.
+-- `script_room` meets its contract: an array of n equal elements has n; the law is cited, as counting four million
+-- would not end. Assumes nothing.
 use Prim.Native.Nat.{ℕ}
 use mathlib.Core.Path.{sym}
 use lib.ListN.{length-replicate}

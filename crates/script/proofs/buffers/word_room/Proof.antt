@@ -1,4 +1,4 @@
--- `word_room` meets its contract. Assumes nothing.
+-- `word_room` meets its contract: an array of n equal elements has n. Assumes nothing.
 use Prim.Native.Nat.{ℕ}
 use mathlib.Core.Path.{sym}
 use lib.ListN.{length-replicate}

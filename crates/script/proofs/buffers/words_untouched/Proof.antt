@@ -1,4 +1,4 @@
--- `words_untouched` meets its contract. Assumes nothing.
+-- `words_untouched` meets its contract: the index is below the length where a word is read. Assumes nothing.
 use Prim.Native.Nat.{_-_, _≤_}
 use borrow.Author.Needs.{needs}
 use lib.ListN.{length}

@@ -1,4 +1,5 @@
--- `read_number` meets its contract. Assumes nothing.
+-- `read_number` meets its contract: a value is compared with the most of 64 bits before a digit is added, so that
+-- nothing wraps. Assumes nothing.
 use Prim.Native.Nat.{_-_, _≤_}
 use borrow.Author.Needs.{needs}
 use Rattle.script.proofs.line.read_number.Statement.{statement}

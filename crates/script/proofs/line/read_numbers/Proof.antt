@@ -1,4 +1,5 @@
--- `read_numbers` meets its contract. Assumes nothing.
+-- `read_numbers` meets its contract: each turn starts behind the field before, and stores below the buffer's length.
+-- Assumes nothing.
 use Prim.Native.Nat.{_-_, _≤_}
 use mathlib.Core.Path.{_≡_}
 use borrow.Author.Needs.{needs}

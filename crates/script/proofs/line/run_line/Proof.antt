@@ -1,4 +1,5 @@
--- `run_line` meets its contract. Assumes nothing.
+-- `run_line` meets its contract: the text is not longer than its register before and after each command. Assumes
+-- nothing.
 use mathlib.Core.Path.{sym}
 use borrow.Author.Needs.{needs}
 use lib.Seq.{length-take-le}
@@ -80,17 +81,17 @@ returns-5 c = search needs
 array-share-prefix-numbers-3 : tie.Need-array-share-prefix-numbers-3
 array-share-prefix-numbers-3 c = search needs
 
-slice-aggregate-run-reading : tie.Need-slice-aggregate-run-reading
-slice-aggregate-run-reading c = search needs
+slice-aggregate-run-command : tie.Need-slice-aggregate-run-command
+slice-aggregate-run-command c = search needs
 
-slice-reshare-prefix-run-reading : tie.Need-slice-reshare-prefix-run-reading
-slice-reshare-prefix-run-reading c = search needs
+slice-reshare-prefix-run-command : tie.Need-slice-reshare-prefix-run-command
+slice-reshare-prefix-run-command c = search needs
 
-slice-aggregate-run-reading-2 : tie.Need-slice-aggregate-run-reading-2
-slice-aggregate-run-reading-2 c = sym (length-take-le _ _ (search needs))
+slice-aggregate-run-command-2 : tie.Need-slice-aggregate-run-command-2
+slice-aggregate-run-command-2 c = sym (length-take-le _ _ (search needs))
 
-run-reading-requires : tie.Need-run-reading-requires
-run-reading-requires c κs = search needs
+run-command-requires : tie.Need-run-command-requires
+run-command-requires c κs = search needs
 
 same-length-4 : tie.Need-same-length-4
 same-length-4 c = search needs
@@ -130,10 +131,10 @@ run-line-spec =
     same-length-3
     returns-5
     array-share-prefix-numbers-3
-    slice-aggregate-run-reading
-    slice-reshare-prefix-run-reading
-    slice-aggregate-run-reading-2
-    run-reading-requires
+    slice-aggregate-run-command
+    slice-reshare-prefix-run-command
+    slice-aggregate-run-command-2
+    run-command-requires
     same-length-4
     same-length-5
     returns-6)

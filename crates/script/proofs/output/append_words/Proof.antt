@@ -1,4 +1,4 @@
--- `append_words` meets its contract. Assumes nothing.
+-- `append_words` meets its contract: what stands in the buffer stays within it from word to word. Assumes nothing.
 use Prim.Native.Nat.{_-_, _≤_}
 use mathlib.Core.Path.{_≡_}
 use native.Mathlib.Omega.{arith}

@@ -1,4 +1,4 @@
--- `flush` meets its contract. Assumes nothing.
+-- `flush` meets its contract: what stands in the buffer is a part of it. Assumes nothing.
 use mathlib.Core.Path.{sym}
 use borrow.Author.Needs.{needs}
 use lib.Seq.{length-take-le}

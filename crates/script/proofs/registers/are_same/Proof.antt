@@ -1,4 +1,4 @@
--- `are_same` meets its contract. Assumes nothing.
+-- `are_same` meets its contract: both records lie within the registers. Assumes nothing.
 use Prim.Native.Nat.{_-_, _≤_}
 use borrow.Author.Needs.{needs}
 use Rattle.script.proofs.registers.are_same.Statement.{statement}
@@ -12,6 +12,9 @@ abbrev μ-loop : tie.MeasureT-loop
 
 loop-holds : tie.Need-loop-holds Inv-loop μ-loop
 loop-holds c = search needs
+
+cast-loop : tie.Need-cast-loop Inv-loop μ-loop
+cast-loop c = search needs
 
 add-if1 : tie.Need-add-if1 Inv-loop μ-loop
 add-if1 c = search needs
@@ -53,6 +56,7 @@ are-same-spec =
     Inv-loop
     μ-loop
     loop-holds
+    cast-loop
     add-if1
     mul-if1
     element-copy-out-if1

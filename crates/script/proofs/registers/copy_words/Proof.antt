@@ -1,4 +1,4 @@
--- `copy_words` meets its contract. Assumes nothing.
+-- `copy_words` meets its contract: both ranges lie within their lists. Assumes nothing.
 use Prim.Native.Nat.{_-_, _≤_}
 use mathlib.Core.Path.{_≡_}
 use borrow.Author.Needs.{needs}

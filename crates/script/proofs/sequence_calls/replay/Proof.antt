@@ -1,4 +1,4 @@
--- `replay` meets its contract. Assumes nothing.
+-- `replay` meets its contract: the part that is lent is a part of the word buffer. Assumes nothing.
 use mathlib.Core.Path.{sym}
 use borrow.Author.Needs.{needs}
 use lib.Seq.{length-take-le}
@@ -8,20 +8,11 @@ use Rattle.script.proofs.sequence_calls.replay.Tie as tie
 returns : tie.Need-returns
 returns c = search needs
 
-shared-slice-read-r : tie.Need-shared-slice-read-r
-shared-slice-read-r c = search needs
-
-shared-slice-read-budget : tie.Need-shared-slice-read-budget
-shared-slice-read-budget c = search needs
-
 shared-slice-read-room : tie.Need-shared-slice-read-room
 shared-slice-read-room c = search needs
 
 returns-2 : tie.Need-returns-2
 returns-2 c = search needs
-
-returns-3 : tie.Need-returns-3
-returns-3 c = search needs
 
 slice-aggregate-words-from : tie.Need-slice-aggregate-words-from
 slice-aggregate-words-from c = search needs
@@ -29,11 +20,11 @@ slice-aggregate-words-from c = search needs
 words-from-requires : tie.Need-words-from-requires
 words-from-requires c κs = search needs
 
-sub-if4 : tie.Need-sub-if4
-sub-if4 c = search needs
+sub-if3 : tie.Need-sub-if3
+sub-if3 c = search needs
 
-returns-4 : tie.Need-returns-4
-returns-4 c = search needs
+returns-3 : tie.Need-returns-3
+returns-3 c = search needs
 
 load-requires : tie.Need-load-requires
 load-requires c κs = search needs
@@ -43,6 +34,9 @@ array-share-prefix-trace c = search needs
 
 slice-aggregate-replay-with : tie.Need-slice-aggregate-replay-with
 slice-aggregate-replay-with c = search needs
+
+shared-slice-read-replay-with : tie.Need-shared-slice-read-replay-with
+shared-slice-read-replay-with c = search needs
 
 slice-relend-prefix-replay-with : tie.Need-slice-relend-prefix-replay-with
 slice-relend-prefix-replay-with c = search needs
@@ -56,28 +50,26 @@ replay-with-requires c κs = search needs
 same-length : tie.Need-same-length
 same-length c = search needs
 
-returns-5 : tie.Need-returns-5
-returns-5 c = search needs
+returns-4 : tie.Need-returns-4
+returns-4 c = search needs
 
 pub replay-spec : {M : Type 1} → statement M
 replay-spec =
     tie.close
     (tie.spec
     returns
-    shared-slice-read-r
-    shared-slice-read-budget
     shared-slice-read-room
     returns-2
-    returns-3
     slice-aggregate-words-from
     words-from-requires
-    sub-if4
-    returns-4
+    sub-if3
+    returns-3
     load-requires
     array-share-prefix-trace
     slice-aggregate-replay-with
+    shared-slice-read-replay-with
     slice-relend-prefix-replay-with
     slice-aggregate-replay-with-2
     replay-with-requires
     same-length
-    returns-5)
+    returns-4)

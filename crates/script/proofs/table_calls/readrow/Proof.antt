@@ -1,4 +1,4 @@
--- `readrow` meets its contract. Assumes nothing.
+-- `readrow` meets its contract: the part that is lent is a part of the word buffer. Assumes nothing.
 use mathlib.Core.Path.{sym}
 use borrow.Author.Needs.{needs}
 use lib.Seq.{length-take-le}

@@ -1,4 +1,4 @@
--- `writenet` meets its contract. Assumes nothing.
+-- `writenet` meets its contract: the parts that are lent and kept are parts of the byte buffer. Assumes nothing.
 use mathlib.Core.Path.{sym}
 use borrow.Author.Needs.{needs}
 use lib.Seq.{length-take-le}
@@ -14,11 +14,17 @@ shared-slice-read-r c = search needs
 shared-slice-read-room : tie.Need-shared-slice-read-room
 shared-slice-read-room c = search needs
 
+cast-if2 : tie.Need-cast-if2
+cast-if2 c = search needs
+
 returns-2 : tie.Need-returns-2
 returns-2 c = search needs
 
 returns-3 : tie.Need-returns-3
 returns-3 c = search needs
+
+cast-load : tie.Need-cast-load
+cast-load c = search needs
 
 load-requires : tie.Need-load-requires
 load-requires c κs = search needs
@@ -75,8 +81,10 @@ writenet-spec =
     returns
     shared-slice-read-r
     shared-slice-read-room
+    cast-if2
     returns-2
     returns-3
+    cast-load
     load-requires
     slice-relend-prefix-write-with
     slice-aggregate-write-with

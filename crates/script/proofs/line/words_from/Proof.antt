@@ -1,11 +1,12 @@
--- `words_from` meets its contract. Assumes nothing.
+-- `words_from` meets its contract: each turn stores one word below the buffer's length, and a number is cast only if
+-- it fits. Assumes nothing.
 use Prim.Native.Nat.{_-_, _≤_}
 use mathlib.Core.Path.{_≡_}
 use borrow.Author.Needs.{needs}
 use lib.ListN.{length}
 use Rattle.script.proofs.CountLaws.{counts}
-use Rattle.script.proofs.sequence_calls.words_from.Statement.{statement}
-use Rattle.script.proofs.sequence_calls.words_from.Tie as tie
+use Rattle.script.proofs.line.words_from.Statement.{statement}
+use Rattle.script.proofs.line.words_from.Tie as tie
 
 abbrev Inv-loop : tie.InvT-loop
 Inv-loop numbers from words₀ n₀ i₀ words n i = (length words ≡ length words₀) × (n ≤ length words₀)
