@@ -5,7 +5,7 @@ use mathlib.Core.Path.{_≡_}
 use mathlib.Core.Bool.{true}
 use mathlib.Core.List.{List}
 use lib.ListN.{length, take, drop, getD}
-use Rattle.obligations.specs.Limits.{activities}
+use Rattle.obligations.specs.Limits.{activities, masks}
 use Rattle.obligations.specs.State.{total}
 use Rattle.net.specs.Limits.{sets, places}
 use Rattle.net.specs.Lists.{listed}
@@ -56,6 +56,10 @@ setsOn net side a = sideIn (masksOf net side) (lengthsOf net side) a
 -- m is a set on activity a's side
 abbrev pub OnSide : Net → Side → ℕ → ℕ → Type 0
 OnSide net side a m = listed m (setsOn net side a) ≡ true
+
+-- every mask of the record has 32 bits, as in every record of a program
+abbrev pub Masks : Net → Type 0
+Masks net = (side : Side) (i : ℕ) → getD (masksOf net side) i 0 < masks
 
 -- how many sets a net holds
 abbrev pub netSize : Net → ℕ

@@ -1,18 +1,16 @@
--- The definitions computed on short files. Assumes nothing.
+-- The definitions computed on short files; longer ones are compared by test programs. Assumes nothing.
 use Prim.Native.Nat.{ℕ}
 use mathlib.Core.Path.{_≡_, refl}
-use mathlib.Core.List.{List, [], _∷_, _++_}
+use mathlib.Core.List.{List, [], _∷_}
 use Rattle.obligations.specs.Sets.{single, union}
 use Rattle.text.specs.Lines.{unlines}
 use Rattle.text.specs.Decimal.{isNumber, parseNumber, printNumber}
 use Rattle.text.specs.Members.{areMembers, parseMembers}
-use Rattle.net.specs.Refusals.{accepted, refused}
+use Rattle.net.specs.Refusals.{refused}
 use Rattle.net.specs.Lists.{allBelow, listed, ascendsAbove, zeros, insert}
-use Rattle.net.specs.Sides.{setsOn}
 use Rattle.net.specs.Orderly.{endsOk, blockOk, sidesOk, sized, orderly}
 use Rattle.net.specs.Fresh.{freshNet}
 use Rattle.net.specs.Put.{misplaced, sideSays, putSays, grows, putGives}
-use Rattle.net.specs.declared.Side.the-variants.{Input, Output}
 use Rattle.netfile.specs.NetFile.{netHeader, readEnd, rowRest, readRow, readRows, fromEnd, fromStart, fromHeader, readNet, setLines, setsLines, activityLines, headLines, netLines, netText}
 
 -- a file of these lines after the header
@@ -27,22 +25,6 @@ start-0 = 115 ∷ 116 ∷ 97 ∷ 114 ∷ 116 ∷ 44 ∷ 48 ∷ 44 ∷ []
 abbrev end-3 : List ℕ
 end-3 = 101 ∷ 110 ∷ 100 ∷ 44 ∷ 51 ∷ 44 ∷ []
 
--- the net file of net F, its rows in another order than the writer's and one of them twice, without a last line end
-abbrev file-f : List ℕ
-file-f = file (start-0 ∷ end-3 ∷ (105 ∷ 110 ∷ 44 ∷ 49 ∷ 44 ∷ 48 ∷ []) ∷ (105 ∷ 110 ∷ 44 ∷ 50 ∷ 44 ∷ 48 ∷ []) ∷ (105 ∷ 110 ∷ 44 ∷ 51 ∷ 44 ∷ 49 ∷ []) ∷ (105 ∷ 110 ∷ 44 ∷ 51 ∷ 44 ∷ 49 ∷ 32 ∷ 50 ∷ []) ∷ (105 ∷ 110 ∷ 44 ∷ 51 ∷ 44 ∷ 50 ∷ []) ∷ (111 ∷ 117 ∷ 116 ∷ 44 ∷ 48 ∷ 44 ∷ 50 ∷ []) ∷ (111 ∷ 117 ∷ 116 ∷ 44 ∷ 48 ∷ 44 ∷ 49 ∷ []) ∷ (111 ∷ 117 ∷ 116 ∷ 44 ∷ 48 ∷ 44 ∷ 49 ∷ 32 ∷ 50 ∷ []) ∷ (111 ∷ 117 ∷ 116 ∷ 44 ∷ 48 ∷ 44 ∷ 49 ∷ 32 ∷ 50 ∷ []) ∷ (111 ∷ 117 ∷ 116 ∷ 44 ∷ 49 ∷ 44 ∷ 51 ∷ []) ∷ []) ++ (111 ∷ 117 ∷ 116 ∷ 44 ∷ 50 ∷ 44 ∷ 51 ∷ [])
-
-f-read : (readNet file-f .says ≡ accepted 0) × (readNet file-f .net .start ≡ 0) × (readNet file-f .net .end ≡ 3)
-unfolding readNet fromHeader fromStart fromEnd readEnd readRow rowRest readRows parseNumber isNumber parseMembers areMembers single union freshNet putSays putGives grows sideSays misplaced orderly sized endsOk sidesOk blockOk allBelow listed ascendsAbove zeros insert file
-f-read = (refl, refl, refl)
-
-f-sides :
-    (setsOn (readNet file-f .net) Input 0 ≡ 0 ∷ [])
-    × (setsOn (readNet file-f .net) Output 0 ≡ 2 ∷ 4 ∷ 6 ∷ [])
-    × (setsOn (readNet file-f .net) Input 3 ≡ 2 ∷ 4 ∷ 6 ∷ [])
-    × (setsOn (readNet file-f .net) Output 1 ≡ 8 ∷ [])
-unfolding readNet fromHeader fromStart fromEnd readEnd readRow rowRest readRows parseNumber isNumber parseMembers areMembers single union freshNet putSays putGives grows sideSays misplaced orderly sized endsOk sidesOk blockOk allBelow listed ascendsAbove zeros insert file
-f-sides = (refl, refl, refl, refl)
-
 -- the fresh net of 0 and 3 is written as three lines
 fresh-written : netText (freshNet 0 3) ≡ file (start-0 ∷ end-3 ∷ [])
 unfolding netText netLines headLines activityLines setsLines setLines printNumber freshNet file
@@ -52,11 +34,6 @@ fresh-written = refl
 nothing : readNet ([]) .says ≡ refused 13 1
 unfolding readNet fromHeader fromStart fromEnd readEnd readRow rowRest readRows parseNumber isNumber parseMembers areMembers single union freshNet putSays putGives grows sideSays misplaced orderly sized endsOk sidesOk blockOk allBelow listed ascendsAbove zeros insert file
 nothing = refl
-
--- with LF alone the file is one line: 13 at line 1
-lf-only : readNet (netHeader ++ (10 ∷ 115 ∷ 116 ∷ 97 ∷ 114 ∷ 116 ∷ 44 ∷ 48 ∷ 44 ∷ 10 ∷ 101 ∷ 110 ∷ 100 ∷ 44 ∷ 51 ∷ 44 ∷ 10 ∷ [])) .says ≡ refused 13 1
-unfolding readNet fromHeader fromStart fromEnd readEnd readRow rowRest readRows parseNumber isNumber parseMembers areMembers single union freshNet putSays putGives grows sideSays misplaced orderly sized endsOk sidesOk blockOk allBelow listed ascendsAbove zeros insert file
-lf-only = refl
 
 -- a file that ends after the header is 13 at line 2
 start-missing : readNet (file []) .says ≡ refused 13 2
@@ -92,13 +69,3 @@ start-input = refl
 descending : readNet (file (start-0 ∷ end-3 ∷ (105 ∷ 110 ∷ 44 ∷ 48 ∷ 44 ∷ 50 ∷ 32 ∷ 49 ∷ []) ∷ [])) .says ≡ refused 14 4
 unfolding readNet fromHeader fromStart fromEnd readEnd readRow rowRest readRows parseNumber isNumber parseMembers areMembers single union freshNet putSays putGives grows sideSays misplaced orderly sized endsOk sidesOk blockOk allBelow listed ascendsAbove zeros insert file
 descending = refl
-
--- in,3, followed by a CR at the end of the file is 14
-end-input : readNet (file (start-0 ∷ end-3 ∷ []) ++ (105 ∷ 110 ∷ 44 ∷ 51 ∷ 44 ∷ 49 ∷ 13 ∷ [])) .says ≡ refused 14 4
-unfolding readNet fromHeader fromStart fromEnd readEnd readRow rowRest readRows parseNumber isNumber parseMembers areMembers single union freshNet putSays putGives grows sideSays misplaced orderly sized endsOk sidesOk blockOk allBelow listed ascendsAbove zeros insert file
-end-input = refl
-
--- a side of 16 takes a set again, and refuses a 17th by 12
-seventeenth : readNet (file (start-0 ∷ end-3 ∷ (105 ∷ 110 ∷ 44 ∷ 49 ∷ 44 ∷ 48 ∷ []) ∷ (105 ∷ 110 ∷ 44 ∷ 49 ∷ 44 ∷ 49 ∷ []) ∷ (105 ∷ 110 ∷ 44 ∷ 49 ∷ 44 ∷ 50 ∷ []) ∷ (105 ∷ 110 ∷ 44 ∷ 49 ∷ 44 ∷ 51 ∷ []) ∷ (105 ∷ 110 ∷ 44 ∷ 49 ∷ 44 ∷ 52 ∷ []) ∷ (105 ∷ 110 ∷ 44 ∷ 49 ∷ 44 ∷ 53 ∷ []) ∷ (105 ∷ 110 ∷ 44 ∷ 49 ∷ 44 ∷ 54 ∷ []) ∷ (105 ∷ 110 ∷ 44 ∷ 49 ∷ 44 ∷ 55 ∷ []) ∷ (105 ∷ 110 ∷ 44 ∷ 49 ∷ 44 ∷ 56 ∷ []) ∷ (105 ∷ 110 ∷ 44 ∷ 49 ∷ 44 ∷ 57 ∷ []) ∷ (105 ∷ 110 ∷ 44 ∷ 49 ∷ 44 ∷ 49 ∷ 48 ∷ []) ∷ (105 ∷ 110 ∷ 44 ∷ 49 ∷ 44 ∷ 49 ∷ 49 ∷ []) ∷ (105 ∷ 110 ∷ 44 ∷ 49 ∷ 44 ∷ 49 ∷ 50 ∷ []) ∷ (105 ∷ 110 ∷ 44 ∷ 49 ∷ 44 ∷ 49 ∷ 51 ∷ []) ∷ (105 ∷ 110 ∷ 44 ∷ 49 ∷ 44 ∷ 49 ∷ 52 ∷ []) ∷ (105 ∷ 110 ∷ 44 ∷ 49 ∷ 44 ∷ 49 ∷ 53 ∷ []) ∷ (105 ∷ 110 ∷ 44 ∷ 49 ∷ 44 ∷ 48 ∷ []) ∷ (105 ∷ 110 ∷ 44 ∷ 49 ∷ 44 ∷ 49 ∷ 54 ∷ []) ∷ [])) .says ≡ refused 12 21
-unfolding readNet fromHeader fromStart fromEnd readEnd readRow rowRest readRows parseNumber isNumber parseMembers areMembers single union freshNet putSays putGives grows sideSays misplaced orderly sized endsOk sidesOk blockOk allBelow listed ascendsAbove zeros insert file
-seventeenth = refl

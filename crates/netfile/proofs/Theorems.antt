@@ -14,7 +14,7 @@ use Rattle.obligations.specs.Limits.{activities, masks}
 use Rattle.obligations.proofs.BoolLaws.{true-or-false, false-not-true}
 use Rattle.net.specs.Refusals.{Says, accepted}
 use Rattle.net.specs.Limits.{sets}
-use Rattle.net.specs.Sides.{masksOf, lengthsOf, emptyAt, setsOn, OnSide}
+use Rattle.net.specs.Sides.{masksOf, lengthsOf, emptyAt, setsOn, OnSide, Masks}
 use Rattle.net.specs.Orderly.{endsOk, orderly}
 use Rattle.net.specs.Fresh.{freshNet}
 use Rattle.net.specs.Contained.{Contained}
@@ -28,8 +28,8 @@ use Rattle.net.proofs.FreshLaws.{fresh-start, fresh-end, fresh-on-side, fresh-o
 use Rattle.net.proofs.PutLaws.{put-says-side}
 use Rattle.net.proofs.AscendingLaws.{listed-below}
 use Rattle.net.proofs.WithinLaws.{contained-same, put-accepts-within, put-keeps-within}
-use Rattle.netfile.specs.NetFile.{readRow, rowSays, rowGives, Reading, readRows, fromEnd, fromStart, fromHeader, readNet, activityLines, headLines, netLines, netText}
-use Rattle.netfile.specs.Statements.{MaskSets, RoundTrip, RefusedFresh, ReadOrderly, ReadAgain, RowSaysSide, HasRow, ReadSaid}
+use Rattle.netfile.specs.NetFile.{readRow, rowSays, rowGives, Reading, readAs, readRows, fromEnd, fromStart, fromHeader, readNet, activityLines, headLines, netLines, netText}
+use Rattle.netfile.specs.Statements.{RoundTrip, RefusedFresh, ReadOrderly, ReadAgain, RowSaysSide, HasRow, ReadSaid}
 use Rattle.netfile.proofs.RowLaws.{row-facts}
 use Rattle.netfile.proofs.PutRowLaws.{row-orderly}
 use Rattle.netfile.proofs.FileLaws.{read-short}
@@ -44,6 +44,10 @@ fresh-empty start end Input net s e = fresh-start start end ∙ sym s
 fresh-empty start end Output net s e = fresh-end start end ∙ sym e
 
 -- ---- the rows of a net, put into a net that it contains
+
+-- each set of a net is a mask of 32 bits
+abbrev MaskSets : Net → Type 0
+MaskSets net = (side : Side) (a m : ℕ) → OnSide net side a m → m < masks
 
 module _ (whole : Net) (q : orderly whole ≡ true) (w : MaskSets whole) where
   rows-accepted : (n : ℕ) (net : Net) (ls : List (List ℕ)) → orderly net ≡ true → Contained net whole → ((line : List ℕ) → List·Memᴰ line ls → RowOf whole line)
@@ -122,17 +126,18 @@ module _ (whole : Net) (q : orderly whole ≡ true) (w : MaskSets whole) where
 reading-ext : (r : Reading) (s : Says) (net : Net) → r .says ≡ s → r .net ≡ net → r ≡ record { says = s; net = net }
 reading-ext r s net p q = rw (← p, ← q)
 
-pub round-trip : RoundTrip
+sets-back : (net : Net) → orderly net ≡ true → MaskSets net → readNet (netText net) ≡ readAs net
 unfolding after
-round-trip net o w = text-after net o w ∙ reading-ext (after net o w) (accepted 0) net (rows-said 4 (fresh net o w) (activityLines net activities 0) (accepted-after net o w .0)) (after-net net o w)
+sets-back net o w = text-after net o w ∙ reading-ext (after net o w) (accepted 0) net (rows-said 4 (fresh net o w) (activityLines net activities 0) (accepted-after net o w .0)) (after-net net o w)
 
--- ---- the sets of a record in a program
-
--- the words of its arrays are below 2 ^ 32, and so are its sets
-pub word-sets : (net : Net) → ((side : Side) (i : ℕ) → getD (masksOf net side) i 0 < masks) → MaskSets net
+-- the words of a record's arrays are below 2 ^ 32, and so are its sets
+word-sets : (net : Net) → Masks net → MaskSets net
 word-sets net h side a m on =
     listed-below masks m (setsOn net side a)
     (λ i l. rw (side-at (masksOf net side) (lengthsOf net side) a i (omega (arith, length-take (getD (lengthsOf net side) a 0) (drop (sets * a) (masksOf net side))))) (h side (sets * a + i))) on
+
+pub round-trip : RoundTrip
+round-trip net o w = sets-back net o (word-sets net w)
 
 -- ---- whatever is read
 
@@ -171,11 +176,11 @@ read-said text h =
           );
     }
 
-pub read-masks : (text : List ℕ) → readNet text .says .ok ≡ true → MaskSets (readNet text .net)
+read-masks : (text : List ℕ) → readNet text .says .ok ≡ true → MaskSets (readNet text .net)
 read-masks text h side a m i = ⊎-elim (λ e. omega arith) (λ r. row-facts (r .line) side a m (r .is-row) .2) (read-said text h .sets-read side a m .0 i)
 
 pub read-again : ReadAgain
 read-again text h =
     let a = accepted-parts text h in
     let s : readNet text .says ≡ accepted 0 = ap (λ (r : Reading). r .says) (a .is-rows) ∙ rows-said 4 (freshNet (a .start) (a .end)) (a .rows) (a .fine) in
-    round-trip (readNet text .net) (read-orderly text) (read-masks text h) ∙ sym (reading-ext (readNet text) (accepted 0) (readNet text .net) s refl)
+    sets-back (readNet text .net) (read-orderly text) (read-masks text h) ∙ sym (reading-ext (readNet text) (accepted 0) (readNet text .net) s refl)

@@ -1,12 +1,11 @@
 -- What is proved of the definitions. The proofs are in proofs/Theorems.antt.
-use Prim.Native.Nat.{ℕ, _<_}
+use Prim.Native.Nat.{ℕ}
 use mathlib.Core.Path.{_≡_}
 use mathlib.Core.Bool.{true, false}
 use mathlib.Core.List.{List, _∷_, List·Memᴰ}
 use mathlib.Core.Logic.{_⊎_, _↔_}
-use Rattle.obligations.specs.Limits.{masks}
 use Rattle.text.specs.Lines.{lines}
-use Rattle.net.specs.Sides.{masksOf, lengthsOf, emptyAt, OnSide}
+use Rattle.net.specs.Sides.{masksOf, lengthsOf, emptyAt, OnSide, Masks}
 use Rattle.net.specs.Orderly.{orderly}
 use Rattle.net.specs.Fresh.{freshNet}
 use Rattle.net.specs.Put.{sideSays}
@@ -16,13 +15,9 @@ use Rattle.netfile.specs.NetFile.{netHeader, startWord, endWord, readEnd
 use Rattle.netfile.specs.declared.line.EndLine.the-variants.{Activity}
 use Rattle.netfile.specs.declared.line.RowLine.the-variants.{Set}
 
--- each set of a net is a mask of 32 bits, which holds of every record in a program
-abbrev pub MaskSets : Net → Type 0
-MaskSets net = (side : Side) (a m : ℕ) → OnSide net side a m → m < masks
-
 -- what the writer writes of an orderly net is read as that net, word for word
 abbrev pub RoundTrip : Type 0
-RoundTrip = (net : Net) → orderly net ≡ true → MaskSets net → readNet (netText net) ≡ readAs net
+RoundTrip = (net : Net) → orderly net ≡ true → Masks net → readNet (netText net) ≡ readAs net
 
 -- a refused reading returns the fresh net of 0 and 1
 abbrev pub RefusedFresh : Type 0

@@ -1,7 +1,7 @@
 -- Laws of tests: what a Boolean equation says, and back. Assumes nothing.
 use mathlib.Core.Path.{_≡_, refl, sym, subst}
 use mathlib.Core.Logic.{_⊎_, inl, inr}
-use mathlib.Core.Bool.{Bool, true, false, _&&_}
+use mathlib.Core.Bool.{Bool, true, false, _&&_, _||_}
 use lib.Dec.{T}
 
 pub true-or-false : (a : Bool) → (a ≡ true) ⊎ (a ≡ false)
@@ -28,3 +28,14 @@ same-test true true f g = refl
 same-test true false f g = sym (f refl)
 same-test false true f g = g refl
 same-test false false f g = refl
+
+pub or-left : {a : Bool} (b : Bool) → a ≡ true → a || b ≡ true
+or-left b e = rw e
+
+pub or-right : (a : Bool) {b : Bool} → b ≡ true → a || b ≡ true
+or-right true e = refl
+or-right false e = e
+
+pub or-cases : (a b : Bool) → a || b ≡ true → (a ≡ true) ⊎ (b ≡ true)
+or-cases true b e = inl refl
+or-cases false b e = inr e

@@ -1,8 +1,10 @@
 -- The laws of the definitions in specs/, by concept.
 pub mod BoolLaws
+pub mod TestLaws
 pub mod BitLaws
 pub mod SetLaws
 pub mod MemberLaws
+pub mod LowestLaws
 pub mod PlaceLaws
 pub mod StateLaws
 pub mod CountLaws

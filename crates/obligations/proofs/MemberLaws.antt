@@ -3,7 +3,7 @@
 use Prim.Native.Nat.{ℕ, zero, suc, _+_, _-_, _*_, _/_, _%_, _^_, _≤_, _<_, min}
 use mathlib.Core.Path.{_≡_, refl, sym, ap, ap₂, _∙_}
 use mathlib.Core.Logic.{_↔_, _⊎_, inl, inr, ⊎-elim}
-use mathlib.Core.Bool.{Bool, true}
+use mathlib.Core.Bool.{true}
 use mathlib.Core.List.{List, [], _∷_, List·Memᴰ, List·Memᴰ·head, List·Memᴰ·tail, List·Memᴰ·cases-cons, List·Memᴰ·not-nil}
 use native.Mathlib.Nat.{mod-lt, add-zero, zero-add, pow-suc}
 use native.Mathlib.Omega.{arith}
@@ -12,8 +12,9 @@ use lib.Bits.{bitAnd, and-step, and-self}
 use lib.Count.{ones, onesIn, ones-step, trailingZeros, under}
 use lib.Dec.{lit<}
 use lib.ListN.{length}
-use Rattle.obligations.specs.Tests.{indicator, number}
+use Rattle.obligations.specs.Tests.{number}
 use Rattle.obligations.specs.Sets.{bit, member, single, keep, membersFrom, members, size}
+use Rattle.obligations.proofs.TestLaws.{number-ext, number-first}
 use Rattle.obligations.proofs.BitLaws.{half-lt, parity, bit-zero, bit-suc}
 use Rattle.obligations.proofs.SetLaws.{member-bit, bit-member, bit-indicator, member-suc, member-activity}
 
@@ -48,10 +49,10 @@ walk (suc n) k m p h = ⊎-elim (λ e. even e (walk n (suc k) (m / 2) (omega ari
         rw (e, l₁, l₂, add-zero) refl
 
 -- the lowest member is the place of a digit, and its power of two is part of the mask
-pub lowest : (n m : ℕ) → 0 < m → m < 2 ^ n → (trailingZeros n m < n) × (2 ^ trailingZeros n m ≤ m)
+pub lowest-digit : (n m : ℕ) → 0 < m → m < 2 ^ n → (trailingZeros n m < n) × (2 ^ trailingZeros n m ≤ m)
 unfolding trailingZeros
-lowest zero m p h = absurd (omega arith)
-lowest (suc n) m p h = ⊎-elim (λ e. even e (lowest n (m / 2) (omega arith) (half-lt m n h))) odd (parity m)
+lowest-digit zero m p h = absurd (omega arith)
+lowest-digit (suc n) m p h = ⊎-elim (λ e. even e (lowest-digit n (m / 2) (omega arith) (half-lt m n h))) odd (parity m)
   where
     Goal : ℕ → Type 0
     Goal r = (under r (trailingZeros n (m / 2)) < suc n) × (2 ^ under r (trailingZeros n (m / 2)) ≤ m)
@@ -122,17 +123,13 @@ unfolding size members
 size-le m = length-le 32 0 m
 
 -- and the number of activities that are members
-number-ext : (n : ℕ) (t u : ℕ → Bool) → ((k : ℕ) → t k ≡ u k) → number n t ≡ number n u
-unfolding number
-number-ext zero t u e = refl
-number-ext (suc n) t u e = ap₂ (λ (b : Bool) (r : ℕ). indicator b + r) (e 0) (number-ext n (λ k. t (suc k)) (λ k. u (suc k)) (λ k. e (suc k)))
-
 length-number : (n k m : ℕ) → length (membersFrom n k m) ≡ number n (member m)
 unfolding membersFrom number
 length-number zero k m = refl
 length-number (suc n) k m =
     length-keep (m % 2) k (membersFrom n (suc k) (m / 2)) (mod-lt m (lit< tt))
-    ∙ ap₂ _+_ (sym (bit-zero m) ∙ bit-indicator m 0) (length-number n (suc k) (m / 2) ∙ number-ext n (member (m / 2)) (λ j. member m (suc j)) (λ j. sym (member-suc m j)))
+    ∙ ap₂ _+_ (sym (bit-zero m) ∙ bit-indicator m 0) (length-number n (suc k) (m / 2) ∙ number-ext n (member (m / 2)) (λ j. member m (suc j)) (λ j l. sym (member-suc m j)))
+    ∙ sym (number-first n (member m))
 
 pub size-number : (m : ℕ) → size m ≡ number 32 (member m)
 unfolding size members

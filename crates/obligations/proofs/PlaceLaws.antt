@@ -18,7 +18,7 @@ use Rattle.obligations.specs.State.{places, allDue, lowered, raised, Sta
 use Rattle.obligations.proofs.BoolLaws.{and-left, and-right, and-both}
 use Rattle.obligations.proofs.BitLaws.{bit-lt, bit-zero, bit-suc, same, same-refl, same-cases, same-ne}
 use Rattle.obligations.proofs.SetLaws.{lt-or-le}
-use Rattle.obligations.proofs.MemberLaws.{members-walk, members-none, members-single, lowest, drop-lowest}
+use Rattle.obligations.proofs.MemberLaws.{members-walk, members-none, members-single, lowest-digit, drop-lowest}
 
 -- how often a place stands among places
 unfoldable pub occ : ℕ → List ℕ → ℕ
@@ -238,7 +238,7 @@ pub turn : (base stride rest : ℕ) → base + 31 * stride < 1024 → (rest ≡ 
 unfolding places
 turn base stride rest hb ne h =
     let p : 0 < rest = omega arith in
-    let l = lowest 32 rest p h in
+    let l = lowest-digit 32 rest p h in
     let s : trailingZeros 32 rest * stride ≤ 31 * stride = mul-le-mul-right stride (omega arith) in
     record {
       member-small = l .0;

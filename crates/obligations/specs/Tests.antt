@@ -10,7 +10,7 @@ indicator false = 0
 -- how many numbers below n pass the test
 unfoldable pub number : ℕ → (ℕ → Bool) → ℕ
 number zero test = 0
-number (suc n) test = indicator (test 0) + number n (λ k. test (suc k))
+number (suc n) test = number n test + indicator (test n)
 
 -- the first of n positions at which the test fails, counted from 1, or 0 if it fails at none; k positions stand before
 unfoldable pub firstFrom : ℕ → ℕ → (ℕ → Bool) → ℕ

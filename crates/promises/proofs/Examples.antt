@@ -4,7 +4,7 @@ use Prim.Native.Nat.{ℕ}
 use mathlib.Core.Path.{_≡_, refl}
 use mathlib.Core.List.{List, [], _∷_, map}
 use lib.ListN.{set, replicate}
-use Rattle.obligations.specs.Tests.{firstFrom, firstFailing}
+use Rattle.obligations.specs.Tests.{number, firstFrom, firstFailing}
 use Rattle.obligations.specs.Sets.{bit, member, single, union, keep, membersFrom, members}
 use Rattle.obligations.specs.State.{places, inputs, outputs, allDue, lowered, raised, possible, taken, added, after, allZero, total}
 use Rattle.obligations.specs.Trace.{firstNoActivity, endsAgree, shaped}
@@ -16,7 +16,7 @@ use Rattle.net.specs.Fresh.{freshNet}
 use Rattle.net.specs.Put.{misplaced, sideSays, grows, putMasks, putLengths}
 use Rattle.net.specs.Contained.{sidesWithin, contained, containedSays}
 use Rattle.net.specs.declared.Net.{Net}
-use Rattle.walks.specs.Below.{anyBelow, countBelow, sumBelow, withIf, thoseBelow, those}
+use Rattle.walks.specs.Below.{anyBelow, sumBelow, withIf, thoseBelow, those}
 use Rattle.walks.specs.Arcs.{named, names, arc, arcs}
 use Rattle.walks.specs.Rows.{rowsFrom, rows, unionFrom, grown as grownBy, rounds, reach}
 use Rattle.walks.specs.Check.{onSides, inNet, successors, predecessors, outside, lost, lowest, lostSays, checkSays}
@@ -60,7 +60,7 @@ marked :
     × (judgeSays F (0 ∷ 0 ∷ 6 ∷ 2 ∷ 1 ∷ 8 ∷ 3 ∷ 4 ∷ 0 ∷ []) ≡ refused 11 0)
     × (answers (freshNet 0 3) (learn (0 ∷ 0 ∷ 2 ∷ 1 ∷ 3 ∷ 10 ∷ 3 ∷ 2 ∷ 0 ∷ []) ∷ []) ≡ refused 10 2 ∷ [])
     × (answers (freshNet 0 4) (learn fig4 ∷ learn fig4 ∷ []) ≡ accepted 12 ∷ accepted 0 ∷ [])
-unfolding judgeSays judgePositions onWalks runSays firstMissing onSideAt learnSays learnGives withinLimits wordsFit bindings firstNoActivity firstFailing firstFrom learnPositions shaped endsAgree firstWronglyEmpty emptyAgree firstImpossible possibleAt possible run after taken added inputs outputs places members membersFrom keep allDue lowered raised allZero fits takesBinding takesPut withBinding withPut gained sideSays misplaced listed insert grows putMasks putLengths total freshNet orderly sized endsOk sidesOk blockOk allBelow ascendsAbove zeros trialsOf later orElse behind trialIf trial tryOutputs tryInputs atEnd searchFrom searchOf endSays replayed within checkedSays roomFits replayRefusal replaySays checkSays lostSays lowest lost outside successors predecessors inNet onSides reach rounds grownBy unionFrom rows rowsFrom arcs arc names named those thoseBelow withIf sumBelow countBelow anyBelow union single member bit F fig4 answers
+unfolding judgeSays judgePositions onWalks runSays firstMissing onSideAt learnSays learnGives withinLimits wordsFit bindings firstNoActivity firstFailing firstFrom learnPositions shaped endsAgree firstWronglyEmpty emptyAgree firstImpossible possibleAt possible run after taken added inputs outputs places members membersFrom keep allDue lowered raised allZero fits takesBinding takesPut withBinding withPut gained sideSays misplaced listed insert grows putMasks putLengths total freshNet orderly sized endsOk sidesOk blockOk allBelow ascendsAbove zeros trialsOf later orElse behind trialIf trial tryOutputs tryInputs atEnd searchFrom searchOf endSays replayed within checkedSays roomFits replayRefusal replaySays checkSays lostSays lowest lost outside successors predecessors inNet onSides reach rounds grownBy unionFrom rows rowsFrom arcs arc names named those thoseBelow withIf sumBelow number anyBelow union single member bit F fig4 answers
 marked = (refl, refl, refl, refl, refl, refl, refl, refl, refl, refl, refl, refl, refl)
 
 -- F is what three sequences give
@@ -89,5 +89,5 @@ nets :
     (map checkSays (net ∷ larger ∷ other ∷ []) ≡ accepted 7 ∷ accepted 8 ∷ accepted 1 ∷ [])
     × (containedSays net larger ≡ accepted 1)
     × (containedSays net other ≡ accepted 0)
-unfolding learnSays learnGives withinLimits wordsFit bindings firstNoActivity firstFailing firstFrom learnPositions shaped endsAgree firstWronglyEmpty emptyAgree firstImpossible possibleAt possible run after taken added inputs outputs places members membersFrom keep allDue lowered raised allZero fits takesBinding takesPut withBinding withPut gained sideSays misplaced listed insert grows putMasks putLengths total freshNet orderly sized endsOk sidesOk blockOk allBelow ascendsAbove zeros followSays followGives traceWithinLimits traceFits followPositions followedFrom single checkSays lostSays lowest lost outside successors predecessors inNet onSides reach rounds grownBy unionFrom rows rowsFrom arcs arc names named those thoseBelow withIf sumBelow countBelow anyBelow union member bit containedSays contained sidesWithin allListed calls more others fig4 grown
+unfolding learnSays learnGives withinLimits wordsFit bindings firstNoActivity firstFailing firstFrom learnPositions shaped endsAgree firstWronglyEmpty emptyAgree firstImpossible possibleAt possible run after taken added inputs outputs places members membersFrom keep allDue lowered raised allZero fits takesBinding takesPut withBinding withPut gained sideSays misplaced listed insert grows putMasks putLengths total freshNet orderly sized endsOk sidesOk blockOk allBelow ascendsAbove zeros followSays followGives traceWithinLimits traceFits followPositions followedFrom single checkSays lostSays lowest lost outside successors predecessors inNet onSides reach rounds grownBy unionFrom rows rowsFrom arcs arc names named those thoseBelow withIf sumBelow number anyBelow union member bit containedSays contained sidesWithin allListed calls more others fig4 grown
 nets = (refl, refl, refl)

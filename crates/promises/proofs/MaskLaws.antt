@@ -11,14 +11,13 @@ use lib.Dec.{eqb}
 use lib.ListN.{length, getD, List·getD-eq-default}
 use Rattle.obligations.proofs.SetLaws.{lt-or-le}
 use Rattle.net.specs.Lists.{listed}
-use Rattle.net.specs.Sides.{masksOf, lengthsOf, setsOn, OnSide}
+use Rattle.net.specs.Sides.{masksOf, lengthsOf, setsOn, OnSide, Masks}
 use Rattle.net.specs.Orderly.{Orderly}
 use Rattle.net.specs.declared.Net.{Net}
 use Rattle.net.specs.declared.Side.{Side}
 use Rattle.net.proofs.SideLaws.{side-at}
 use Rattle.net.proofs.OrderlyLaws.{facts-orderly, sets-length}
-use Rattle.walks.specs.Statements.{Masks}
-use Rattle.walks.proofs.BoolLaws.{or-left, or-right}
+use Rattle.obligations.proofs.BoolLaws.{or-left, or-right}
 
 -- each element of a list is listed
 listed-at : (l : List ℕ) (i : ℕ) → i < length l → listed (getD l i 0) l ≡ true

@@ -11,7 +11,7 @@ use Rattle.obligations.specs.Sequence.{Binding}
 use Rattle.obligations.proofs.BoolLaws.{false-not-true}
 use Rattle.obligations.proofs.SetLaws.{member-none}
 use Rattle.net.specs.Refusals.{accepted}
-use Rattle.net.specs.Sides.{emptyAt, OnSide}
+use Rattle.net.specs.Sides.{emptyAt, OnSide, Masks}
 use Rattle.net.specs.Orderly.{endsOk}
 use Rattle.net.specs.Fresh.{freshNet}
 use Rattle.net.specs.Valid.{Valid}
@@ -23,7 +23,6 @@ use Rattle.net.proofs.FreshLaws.{fresh-on-side}
 use Rattle.walks.specs.Arcs.{arcs}
 use Rattle.walks.specs.Walks.{InNet, the-start, the-end, with-a-set, in-a-set, OnWalk, Passes}
 use Rattle.walks.specs.Check.{checkSays}
-use Rattle.walks.specs.Statements.{Masks}
 use Rattle.walks.proofs.CheckLaws.{says-none-lost, passes-none-lost}
 use Rattle.promises.proofs.ValidWalkLaws.{Occurs, occurring-on-walk, named-occurs, start-occurs, end-occurs}
 use Rattle.promises.proofs.MaskLaws.{sets-masks}

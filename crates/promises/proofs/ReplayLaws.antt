@@ -14,7 +14,7 @@ use Rattle.net.specs.Contained.{Contained}
 use Rattle.net.specs.declared.Net.{Net}
 use Rattle.net.specs.declared.Side.the-variants.{Input, Output}
 use Rattle.net.proofs.OrderlyLaws.{facts-orderly, on-side-activity}
-use Rattle.walks.specs.Statements.{Masks}
+use Rattle.net.specs.Sides.{Masks}
 use Rattle.search.specs.Choice.{Choice}
 use Rattle.search.specs.Search.{trialsOf}
 use Rattle.search.specs.Replay.{replayed, replayRefusal}

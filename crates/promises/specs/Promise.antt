@@ -6,7 +6,7 @@ use mathlib.Core.List.{List, _∷_, _++_, List·Memᴰ}
 use mathlib.Core.Logic.{_↔_, _⊎_}
 use Rattle.obligations.specs.Sequence.{Binding}
 use Rattle.net.specs.Refusals.{accepted, refused}
-use Rattle.net.specs.Sides.{OnSide, netSize}
+use Rattle.net.specs.Sides.{OnSide, netSize, Masks}
 use Rattle.net.specs.Orderly.{Orderly}
 use Rattle.net.specs.Fresh.{freshSays, freshGives}
 use Rattle.net.specs.Contained.{containedSays}
@@ -16,7 +16,6 @@ use Rattle.net.specs.declared.Side.{Side}
 use Rattle.walks.specs.Arcs.{arcs}
 use Rattle.walks.specs.Walks.{Passes}
 use Rattle.walks.specs.Check.{checkSays}
-use Rattle.walks.specs.Statements.{Masks}
 use Rattle.sequences.specs.Gain.{SetOf}
 use Rattle.search.specs.Statements.{NoChoice}
 use Rattle.promises.specs.Calls.{Call, sequenceOf, says, gives, grown, learned, AllWords}

@@ -12,7 +12,7 @@ use Rattle.net.specs.Orderly.{Orderly}
 use Rattle.net.specs.Valid.{Valid}
 use Rattle.net.specs.declared.Net.{Net}
 use Rattle.walks.specs.Check.{checkSays}
-use Rattle.walks.specs.Statements.{Masks}
+use Rattle.net.specs.Sides.{Masks}
 use Rattle.search.specs.Search.{found, failed, trialsOf, searchOf}
 use Rattle.search.specs.Choice.{Choice}
 use Rattle.search.specs.Trace.{TraceShaped, TraceFits}

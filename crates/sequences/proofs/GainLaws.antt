@@ -20,9 +20,10 @@ use Rattle.net.specs.declared.Side.the-variants.{Input, Output}
 use Rattle.net.proofs.SideLaws.{OrderlySides}
 use Rattle.net.proofs.PutSideLaws.{put-side-total, put-side-orderly}
 use Rattle.net.proofs.OrderlyLaws.{orderly-sides}
-use Rattle.sequences.specs.Gain.{withPut, takesPut, withBinding, takesBinding, gained, fits, addedBy}
+use Rattle.sequences.specs.Gain.{withPut, takesPut, withBinding, takesBinding, gained, fits, gainedBy}
 use Rattle.sequences.specs.Learn.{GainDone, RefusedWith, newSets}
 use Rattle.sequences.specs.declared.LearnResult.{LearnResult}
+use Rattle.sequences.specs.declared.gaining.Gained.the-variants.{Added, NoRoom}
 
 -- the net with other arrays
 abbrev pub netWith : Net → List ℕ → List ℕ → List ℕ → List ℕ → Net
@@ -41,29 +42,25 @@ side-value masks lengths empty a m = go (misplaced empty a m) (listed m (sideIn 
     go false false true = omega arith
     go false false false = omega arith
 
-pub added-small : (masks lengths : List ℕ) (empty a m : ℕ) → addedBy (sideSays masks lengths empty a m) ≤ 2
-unfolding addedBy
-added-small masks lengths empty a m = go (sideSays masks lengths empty a m .ok)
+no-room : (says : Says) → gainedBy says ≡ NoRoom → says .ok ≡ false
+unfolding gainedBy
+no-room says e = go (says .ok) e
   where
-    go : (t : Bool) → cond t (sideSays masks lengths empty a m .value) 2 ≤ 2
-    go true = omega (arith, side-value masks lengths empty a m)
-    go false = omega arith
-
-added-refused : (says : Says) → says .value ≤ 1 → addedBy says ≡ 2 → says .ok ≡ false
-unfolding addedBy
-added-refused says v e = go (says .ok) e
-  where
-    go : (t : Bool) → cond t (says .value) 2 ≡ 2 → t ≡ false
-    go true q = absurd (omega arith)
+    go : (t : Bool) → cond t (Added (says .value)) NoRoom ≡ NoRoom → t ≡ false
+    go true q = absurd (let z : _≡_ {A = ℕ} 0 1 = cc in omega arith)
     go false q = refl
 
-added-taken : (says : Says) → (addedBy says ≡ 2 → ⊥) → (says .ok ≡ true) × (addedBy says ≡ says .value)
-unfolding addedBy
-added-taken says ne = go (says .ok) ne
+took : (says : Says) (u : ℕ) → gainedBy says ≡ Added u → (says .ok ≡ true) × (u ≡ says .value)
+unfolding gainedBy
+took says u e = go (says .ok) e
   where
-    go : (t : Bool) → (cond t (says .value) 2 ≡ 2 → ⊥) → (t ≡ true) × (cond t (says .value) 2 ≡ says .value)
-    go true n = (refl, refl)
-    go false n = absurd (n refl)
+    go : (t : Bool) → cond t (Added (says .value)) NoRoom ≡ Added u → (t ≡ true) × (u ≡ says .value)
+    go true q = (refl, cc)
+    go false q = absurd (let z : _≡_ {A = ℕ} 0 1 = cc in omega arith)
+
+-- a put adds one set at most
+pub one-at-most : (masks lengths : List ℕ) (empty a m u : ℕ) → gainedBy (sideSays masks lengths empty a m) ≡ Added u → u ≤ 1
+one-at-most masks lengths empty a m u e = omega (arith, took (sideSays masks lengths empty a m) u e .1, side-value masks lengths empty a m)
 
 -- ---- the loop
 
@@ -102,24 +99,24 @@ module _ (net : Net) (s : List Binding) (i : ℕ) (inputs inputLen outputs outpu
     cut : drop i s ≡ record { activity = a; input = x; output = y } ∷ drop (i + 1) s
     cut = rw add-one (drop-cons s i (record { activity = 0; input = 0; output = 0 }) h ∙ ap (λ (b : Binding). b ∷ drop (suc i) s) here)
 
-    pub no-input-room : addedBy (sideSays inputs inputLen (net .start) a x) ≡ 2 → fits net s ≡ false
+    pub no-input-room : gainedBy (sideSays inputs inputLen (net .start) a x) ≡ NoRoom → fits net s ≡ false
     unfolding fits takesBinding takesPut
     no-input-room e =
         g .fits-rest ∙ ap (fits (netWith net inputs inputLen outputs outputLen)) cut
-        ∙ (rw (added-refused (sideSays inputs inputLen (net .start) a x) (side-value inputs inputLen (net .start) a x) e))
+        ∙ (rw (no-room (sideSays inputs inputLen (net .start) a x) e))
 
-    pub no-output-room : (addedBy (sideSays inputs inputLen (net .start) a x) ≡ 2 → ⊥) → addedBy (sideSays outputs outputLen (net .end) a y) ≡ 2 → fits net s ≡ false
+    pub no-output-room : (u : ℕ) → gainedBy (sideSays inputs inputLen (net .start) a x) ≡ Added u → gainedBy (sideSays outputs outputLen (net .end) a y) ≡ NoRoom → fits net s ≡ false
     unfolding fits takesBinding takesPut withPut
-    no-output-room t e =
+    no-output-room u t e =
         g .fits-rest ∙ ap (fits (netWith net inputs inputLen outputs outputLen)) cut
-        ∙ (rw (added-taken (sideSays inputs inputLen (net .start) a x) t .0, added-refused (sideSays outputs outputLen (net .end) a y) (side-value outputs outputLen (net .end) a y) e))
+        ∙ (rw (took (sideSays inputs inputLen (net .start) a x) u t .0, no-room (sideSays outputs outputLen (net .end) a y) e))
 
-    next : (addedBy (sideSays inputs inputLen (net .start) a x) ≡ 2 → ⊥) → (addedBy (sideSays outputs outputLen (net .end) a y) ≡ 2 → ⊥)
-        → Gaining net s (i + 1) (putMasks inputs inputLen (net .start) a x) (putLengths inputs inputLen (net .start) a x) (putMasks outputs outputLen (net .end) a y) (putLengths outputs outputLen (net .end) a y) (new + (addedBy (sideSays inputs inputLen (net .start) a x) + addedBy (sideSays outputs outputLen (net .end) a y)))
+    next : (u v : ℕ) → gainedBy (sideSays inputs inputLen (net .start) a x) ≡ Added u → gainedBy (sideSays outputs outputLen (net .end) a y) ≡ Added v
+        → Gaining net s (i + 1) (putMasks inputs inputLen (net .start) a x) (putLengths inputs inputLen (net .start) a x) (putMasks outputs outputLen (net .end) a y) (putLengths outputs outputLen (net .end) a y) (new + (u + v))
     unfolding gained fits withBinding takesBinding withPut takesPut
-    next nu nv =
-        let tx = added-taken (sideSays inputs inputLen (net .start) a x) nu in
-        let ty = added-taken (sideSays outputs outputLen (net .end) a y) nv in
+    next u v eu ev =
+        let tx = took (sideSays inputs inputLen (net .start) a x) u eu in
+        let ty = took (sideSays outputs outputLen (net .end) a y) v ev in
         record {
           inputs-orderly = put-side-orderly inputs inputLen (net .start) a x (g .inputs-orderly) low;
           outputs-orderly = put-side-orderly outputs outputLen (net .end) a y (g .outputs-orderly) low;
@@ -134,11 +131,9 @@ module _ (net : Net) (s : List Binding) (i : ℕ) (inputs inputLen outputs outpu
     pub gaining-next : (inputs′ inputLen′ outputs′ outputLen′ : List ℕ) (u v : ℕ)
         → inputs′ ≡ putMasks inputs inputLen (net .start) a x → inputLen′ ≡ putLengths inputs inputLen (net .start) a x
         → outputs′ ≡ putMasks outputs outputLen (net .end) a y → outputLen′ ≡ putLengths outputs outputLen (net .end) a y
-        → u ≡ addedBy (sideSays inputs inputLen (net .start) a x) → (u ≡ 2 → ⊥)
-        → v ≡ addedBy (sideSays outputs outputLen (net .end) a y) → (v ≡ 2 → ⊥)
+        → gainedBy (sideSays inputs inputLen (net .start) a x) ≡ Added u → gainedBy (sideSays outputs outputLen (net .end) a y) ≡ Added v
         → Gaining net s (i + 1) inputs′ inputLen′ outputs′ outputLen′ (new + (u + v))
-    gaining-next inputs′ inputLen′ outputs′ outputLen′ u v e₁ e₂ e₃ e₄ eu nu ev nv =
-        rw (e₁, e₂, e₃, e₄, eu, ev) (next (λ q. nu (eu ∙ q)) (λ q. nv (ev ∙ q)))
+    gaining-next inputs′ inputLen′ outputs′ outputLen′ u v e₁ e₂ e₃ e₄ eu ev = rw (e₁, e₂, e₃, e₄) (next u v eu ev)
 
 -- a call that was refused for want of room
 pub gain-refused : (net : Net) (s : List Binding) {r : LearnResult} → fits net s ≡ false → RefusedWith net 12 0 r → GainDone net s r

@@ -17,7 +17,7 @@ use Rattle.obligations.proofs.PositionLaws.{pass-first, first-pass}
 use Rattle.obligations.proofs.TraceLaws.{shaped-facts, activities-below}
 use Rattle.net.specs.Lists.{listed}
 use Rattle.net.specs.Refusals.{Says, refused}
-use Rattle.net.specs.Sides.{OnSide, setsOn, emptyAt}
+use Rattle.net.specs.Sides.{OnSide, setsOn, emptyAt, Masks}
 use Rattle.net.specs.Orderly.{orderly, Orderly}
 use Rattle.net.specs.declared.Net.{Net}
 use Rattle.net.specs.declared.Side.{Side}
@@ -25,7 +25,6 @@ use Rattle.net.specs.declared.Side.the-variants.{Input, Output}
 use Rattle.net.proofs.ListLaws.{listed-one}
 use Rattle.net.proofs.OrderlyLaws.{orderly-facts, facts-orderly}
 use Rattle.walks.specs.Check.{lost, lowest}
-use Rattle.walks.specs.Statements.{Masks}
 use Rattle.walks.proofs.CheckLaws.{none-lost-passes, passes-none-lost}
 use Rattle.sequences.specs.Limits.{wordsFit, withinLimits}
 use Rattle.sequences.specs.Judge.{onSideAt, firstMissing, onWalks, runSays, judgePositions, judgeSays}

@@ -16,6 +16,8 @@ use Rattle.net.specs.Put.{sideSays, putMasks, putLengths, withSides}
 use Rattle.net.specs.declared.Net.{Net}
 use Rattle.net.specs.declared.Side.{Side}
 use Rattle.net.specs.declared.Side.the-variants.{Input, Output}
+use Rattle.sequences.specs.declared.gaining.Gained.{Gained}
+use Rattle.sequences.specs.declared.gaining.Gained.the-variants.{Added, NoRoom}
 
 -- the net after a put on one side, and whether that put is accepted; the net is orderly and a is an activity
 unfoldable pub withPut : Net → Side → ℕ → ℕ → Net
@@ -63,12 +65,12 @@ pub record Fits (net : Net) (s : List Binding) : Type 0 where
 
 -- ---- what the code that gains answers
 
--- how many sets a put adds, and 2 where it is refused
-unfoldable pub addedBy : Says → ℕ
-addedBy says = cond (says .ok) (says .value) 2
+-- how many sets a put adds, if it is accepted
+unfoldable pub gainedBy : Says → Gained
+gainedBy says = cond (says .ok) (Added (says .value)) NoRoom
 
-pub record SetGained (masks lengths : List ℕ) (empty a m r : ℕ) (masks′ lengths′ : List ℕ) : Type 0 where
-  pub adds : r ≡ addedBy (sideSays masks lengths empty a m)
+pub record SetGained (masks lengths : List ℕ) (empty a m : ℕ) (r : Gained) (masks′ lengths′ : List ℕ) : Type 0 where
+  pub adds : r ≡ gainedBy (sideSays masks lengths empty a m)
   pub masks-are : masks′ ≡ putMasks masks lengths empty a m
   pub lengths-are : lengths′ ≡ putLengths masks lengths empty a m
 

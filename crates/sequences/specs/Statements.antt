@@ -9,13 +9,12 @@ use mathlib.Core.Logic.{_↔_, _⊎_}
 use lib.ListN.{length, getD}
 use Rattle.obligations.specs.Limits.{masks, positions}
 use Rattle.obligations.specs.Sequence.{bindings, words, WellFormed}
-use Rattle.net.specs.Sides.{OnSide}
+use Rattle.net.specs.Sides.{OnSide, Masks}
 use Rattle.net.specs.Orderly.{Orderly}
 use Rattle.net.specs.Valid.{Valid}
 use Rattle.net.specs.declared.Net.{Net}
 use Rattle.net.specs.declared.Side.{Side}
 use Rattle.walks.specs.Walks.{Passes}
-use Rattle.walks.specs.Statements.{Masks}
 use Rattle.sequences.specs.Gain.{Fits, SetOf}
 use Rattle.sequences.specs.Learn.{learnSays, learnGives}
 use Rattle.sequences.specs.Judge.{judgeSays}

@@ -18,8 +18,11 @@ ghost use Rattle.sequences.specs.Run.{Positions};
 ghost use Rattle.sequences.specs.Gain.{SetGained};
 ghost use Rattle.sequences.specs.Learn.{GainDone, RefusedWith};
 
-// What `gain_set` answers for a set that its side can't take.
-const NO_ROOM: u32 = 2;
+// Added: how many sets a put added. NoRoom: the side can't take the set.
+enum Gained {
+    Added(u32),
+    NoRoom,
+}
 
 // Puts the n positions' sets on their sides, in place in copies of the net's arrays, so that the net is copied once and not
 // for each position. Where a side would exceed its sets the net given is returned.
@@ -39,14 +42,14 @@ pub fn gain(net: Net, words: &[u32], n: usize) -> LearnResult
     let mut at: usize = 0;
     while i < n {
         let a = words[at];
-        let x = gain_set(&mut inputs, &mut input_len, start, a, words[at + 1]);
-        if x == NO_ROOM {
+        let input = gain_set(&mut inputs, &mut input_len, start, a, words[at + 1]);
+        let Gained::Added(x) = input else {
             return refuse(net, refusal::FULL_SIDE, 0);
-        }
-        let y = gain_set(&mut outputs, &mut output_len, end, a, words[at + 2]);
-        if y == NO_ROOM {
+        };
+        let output = gain_set(&mut outputs, &mut output_len, end, a, words[at + 2]);
+        let Gained::Added(y) = output else {
             return refuse(net, refusal::FULL_SIDE, 0);
-        }
+        };
         new += x + y;
         i += 1;
         at += 3;
@@ -78,19 +81,19 @@ pub fn refuse(net: Net, number: u32, place: u32) -> LearnResult
     }
 }
 
-// Puts m on activity a's side and answers how many sets that adds, or NO_ROOM.
-fn gain_set(masks: &mut [u32; 512], lengths: &mut [u32; 32], empty: u32, a: u32, m: u32) -> u32
+// Puts m on activity a's side and answers how many sets that adds.
+fn gain_set(masks: &mut [u32; 512], lengths: &mut [u32; 32], empty: u32, a: u32, m: u32) -> Gained
     requires { ⌜ (length (now masks) ≡ places) × (length (now lengths) ≡ activities) ⌝ }
     requires { ⌜ (a < activities) × (getD (now lengths) a 0 ≤ sets) ⌝ }
     ensures { λ r. ⌜ SetGained (now (masks .entry)) (now (lengths .entry)) empty a m r (now (masks .exit)) (now (lengths .exit)) ⌝ }
 {
     let answer = put_side(masks, lengths, empty, a, m);
     match answer {
-        PutAnswer::New => 1,
-        PutAnswer::Present => 0,
+        PutAnswer::New => Gained::Added(1),
+        PutAnswer::Present => Gained::Added(0),
         PutAnswer::Refused {
             number: _,
             place: _,
-        } => NO_ROOM,
+        } => Gained::NoRoom,
     }
 }

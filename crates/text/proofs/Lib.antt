@@ -5,6 +5,7 @@ pub mod FieldLaws
 pub mod DigitLaws
 pub mod DecimalLaws
 pub mod WriteLaws
+pub mod StoreLaws
 pub mod MemberListLaws
 pub mod MemberWriteLaws
 pub mod Theorems

@@ -9,7 +9,7 @@ use lib.Count.{trailingZeros}
 use lib.ListN.{length, length-append}
 use lib.Seq.{sets, length-sets}
 use Rattle.obligations.specs.Sets.{members}
-use Rattle.obligations.proofs.MemberLaws.{lowest, members-walk, members-none}
+use Rattle.obligations.proofs.MemberLaws.{members-walk, members-none}
 use Rattle.text.specs.Bytes.{Wrote}
 use Rattle.text.specs.Fields.{space, led}
 use Rattle.text.specs.Decimal.{printNumber}
@@ -48,9 +48,6 @@ module _ (m : ℕ) (h : 0 < m) (u : m < 2 ^ 32) where
 
 pub rest-less : (m : ℕ) → 0 < m → bitAnd m (m - 1) < m
 rest-less m h = omega (arith, and-le-r m (m - 1))
-
-pub lowest-activity : (m : ℕ) → 0 < m → m < 2 ^ 32 → trailingZeros 32 m < 32
-lowest-activity m h u = lowest 32 m h u .0
 
 -- width bytes are counted, up to the members of rest
 pub record Counted (set width rest : ℕ) : Type 0 where

@@ -7,14 +7,13 @@ use mathlib.Core.List.{List, [], _∷_}
 use borrow.Author.Tests.{eq-eqb, eqb-true}
 use lib.Dec.{eqb}
 use Rattle.obligations.specs.Sets.{member}
-use Rattle.obligations.proofs.BoolLaws.{false-not-true, and-left, and-right, and-both}
+use Rattle.obligations.proofs.BoolLaws.{false-not-true, and-left, and-right, and-both, or-left, or-right, or-cases}
 use Rattle.net.specs.Lists.{listed}
 use Rattle.net.specs.Sides.{setsOn}
 use Rattle.net.specs.declared.Net.{Net}
 use Rattle.net.specs.declared.Side.{Side}
 use Rattle.net.specs.declared.Side.the-variants.{Input, Output}
 use Rattle.walks.specs.Arcs.{Names, Arc, named, names, arc}
-use Rattle.walks.proofs.BoolLaws.{or-left, or-right, or-cases}
 
 named-listed : (l : List ℕ) (k : ℕ) → named l k ≡ true → (m : ℕ) × (listed m l ≡ true) × (member m k ≡ true)
 unfolding named listed

@@ -1,26 +1,20 @@
--- Laws of tests of all numbers below a bound, each by induction on the bound: whether one passes, which do, how many do,
--- and that a set has as many members as there are numbers below 32 that it has. Assumes nothing.
-use Prim.Native.Nat.{ℕ, zero, suc, _+_, _/_, _%_, _^_, _≤_, _<_}
+-- Laws of tests of all numbers below a bound, each by induction on the bound: whether one passes, which do, and that the set
+-- of those has as many members as there are. Assumes nothing.
+use Prim.Native.Nat.{ℕ, zero, suc, _+_, _^_, _≤_, _<_}
 use mathlib.Core.Path.{_≡_, refl, sym, ap, ap₂, _∙_}
-use mathlib.Core.Logic.{_⊎_, ⊎-elim}
-use mathlib.Core.Bool.{Bool, true, false, cond, _&&_, _||_, and-true, and-false, or-false}
-use native.Mathlib.Nat.{le-refl, add-comm, mod-one, mod-lt, mod-eq-of-lt, eq-or-lt-of-le, le-of-suc-le-suc}
-use native.Mathlib.Numerals.{one-add}
+use mathlib.Core.Logic.{⊎-elim}
+use mathlib.Core.Bool.{Bool, true, false, _&&_, _||_, and-true, and-false, or-false}
+use native.Mathlib.Nat.{le-refl, eq-or-lt-of-le}
 use native.Mathlib.Omega.{arith}
 use borrow.Author.Tests.{eq-eqb, ne-eqb, lt-ltb, le-ltb}
-use lib.Count.{ones, onesIn, ones-cat, ones-le}
-use lib.Dec.{eqb, ltb, lit<}
-use lib.Pow.{pow-pos, mod-pow-add}
-use Rattle.obligations.specs.Sets.{bit, member, single, minus, size}
-use Rattle.obligations.proofs.BoolLaws.{false-not-true}
-use Rattle.obligations.proofs.SetLaws.{lt-or-le, member-none, member-with, member-activity, union-lt, minus-lt, single-lt, set-ext}
-use Rattle.obligations.proofs.MemberLaws.{size-ones, some-member}
-use Rattle.walks.specs.Below.{anyBelow, countBelow, sumBelow, withIf, thoseBelow, those}
-use Rattle.walks.proofs.BoolLaws.{or-left, or-right, or-cases}
-use Rattle.walks.proofs.SetLaws.{minus-some, minus-member}
-
-below-cases : (k n : ℕ) → k < suc n → (k ≡ n) ⊎ (k < n)
-below-cases k n h = eq-or-lt-of-le (le-of-suc-le-suc h)
+use lib.Dec.{eqb, ltb}
+use Rattle.obligations.specs.Tests.{number}
+use Rattle.obligations.specs.Sets.{member, single, minus, size}
+use Rattle.obligations.proofs.BoolLaws.{false-not-true, or-left, or-right, or-cases}
+use Rattle.obligations.proofs.SetLaws.{lt-or-le, member-none, member-with, member-activity, union-lt, minus-lt, single-lt, set-ext, minus-some, minus-member}
+use Rattle.obligations.proofs.TestLaws.{below-cases, number-ext, number-lt}
+use Rattle.obligations.proofs.MemberLaws.{size-number, some-member}
+use Rattle.walks.specs.Below.{anyBelow, sumBelow, withIf, thoseBelow, those}
 
 -- ---- whether one passes
 
@@ -91,12 +85,7 @@ those-lt test = below-lt test 32
 pub those-are : (test : ℕ → Bool) (m : ℕ) → m < 2 ^ 32 → ((k : ℕ) → k < 32 → member m k ≡ test k) → m ≡ those test
 those-are test m h e = set-ext m (those test) h (those-lt test) (λ k l. e k l ∙ sym (member-those-at test k l))
 
--- ---- how many pass
-
-pub count-ext : (n : ℕ) (f g : ℕ → Bool) → ((k : ℕ) → k < n → f k ≡ g k) → countBelow n f ≡ countBelow n g
-unfolding countBelow
-count-ext zero f g e = refl
-count-ext (suc n) f g e = ap₂ (λ (c : ℕ) (t : Bool). c + cond t 1 0) (count-ext n f g (λ k l. e k (omega arith))) (e n (omega arith))
+-- ---- sums
 
 pub sum-ext : (n : ℕ) (f g : ℕ → ℕ) → ((k : ℕ) → k < n → f k ≡ g k) → sumBelow n f ≡ sumBelow n g
 unfolding sumBelow
@@ -109,58 +98,14 @@ unfolding sumBelow
 sum-first zero f = omega arith
 sum-first (suc n) f = omega (arith, sum-first n f)
 
-one-le : (s t : Bool) → (s ≡ true → t ≡ true) → cond {A = ℕ} s 1 0 ≤ cond t 1 0
-one-le true true h = omega arith
-one-le true false h = absurd (false-not-true refl (h refl))
-one-le false true h = omega arith
-one-le false false h = omega arith
-
-one-lt : (s t : Bool) → s ≡ false → t ≡ true → cond {A = ℕ} s 1 0 < cond t 1 0
-one-lt s t e h = rw (e, h) (omega arith)
-
-module _ (f g : ℕ → Bool) (more : (k : ℕ) → f k ≡ true → g k ≡ true) where
-  pub count-le : (n : ℕ) → countBelow n f ≤ countBelow n g
-  unfolding countBelow
-  count-le zero = omega arith
-  count-le (suc n) = omega (arith, count-le n, one-le (f n) (g n) (more n))
-
-  -- a test that passes for one number more has the larger count
-  pub count-lt : (n k : ℕ) → k < n → f k ≡ false → g k ≡ true → countBelow n f < countBelow n g
-  unfolding countBelow
-  count-lt zero k h e t = absurd (omega arith)
-  count-lt (suc n) k h e t =
-      ⊎-elim (λ q. omega (arith, count-le n, one-lt (f n) (g n) (rw (← q) e) (rw (← q) t)))
-      (λ l. omega (arith, count-lt n k l e t, one-le (f n) (g n) (more n))) (below-cases k n h)
-
 -- ---- a set's size
 
-one-ones : (b : ℕ) → b < 2 → ones b ≡ cond (eqb b 1) 1 0
-unfolding ones onesIn
-one-ones zero h = refl
-one-ones (suc zero) h = refl
-one-ones (suc (suc b)) h = absurd (omega arith)
-
-ones-below : (m n : ℕ) → ones (m % 2 ^ n) ≡ countBelow n (member m)
-unfolding countBelow member bit
-ones-below m zero = ap ones (mod-one m) ∙ one-ones 0 (omega arith)
-ones-below m (suc n) =
-    ap ones (ap (λ (k : ℕ). m % 2 ^ k) (sym (one-add n)) ∙ mod-pow-add m 1 n)
-    ∙ ones-cat n (m / 2 ^ n % 2) (m % 2 ^ n) (mod-lt m (pow-pos n))
-    ∙ add-comm (ones (m / 2 ^ n % 2)) (ones (m % 2 ^ n))
-    ∙ ap₂ (λ (x y : ℕ). x + y) (ones-below m n) (one-ones (m / 2 ^ n % 2) (mod-lt (m / 2 ^ n) (lit< tt)))
-
-pub size-count : (m : ℕ) → m < 2 ^ 32 → size m ≡ countBelow 32 (member m)
-size-count m h = size-ones m h ∙ ap ones (sym (mod-eq-of-lt h)) ∙ ones-below m 32
-
-pub size-those : (test : ℕ → Bool) → size (those test) ≡ countBelow 32 test
-size-those test = size-count (those test) (those-lt test) ∙ count-ext 32 (member (those test)) test (member-those-at test)
-
-pub size-le : (m : ℕ) → m < 2 ^ 32 → size m ≤ 32
-size-le m h = rw (size-ones m h) (ones-le 32 m h)
+pub size-those : (test : ℕ → Bool) → size (those test) ≡ number 32 test
+size-those test = size-number (those test) ∙ number-ext 32 (member (those test)) test (member-those-at test)
 
 -- a set that has the members of another and is another has more members
 pub size-lt : (m n : ℕ) → m < 2 ^ 32 → n < 2 ^ 32 → ((k : ℕ) → member m k ≡ true → member n k ≡ true) → (m ≡ n → ⊥) → size m < size n
 size-lt m n hm hn more ne =
     let w = some-member (minus n m) (minus-some m n hm hn more ne) (minus-lt n m hn) in
     let e = minus-member n m (w .0) hn hm (w .1) in
-    rw (size-count m hm, size-count n hn) (count-lt (member m) (member n) more 32 (w .0) (member-activity n (w .0) hn (e .0)) (e .1) (e .0))
+    rw (size-number m, size-number n) (number-lt (member m) (member n) more 32 (w .0) (member-activity n (w .0) hn (e .0)) (e .1) (e .0))

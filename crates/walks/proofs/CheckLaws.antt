@@ -13,11 +13,13 @@ use lib.Dec.{eqb}
 use lib.ListN.{length, getD, take, drop, length-take}
 use lib.Seq.{getD-take, getD-drop}
 use Rattle.obligations.specs.Sets.{member}
-use Rattle.obligations.proofs.BoolLaws.{true-or-false, false-not-true, and-left, and-right, and-both}
+use Rattle.obligations.proofs.BoolLaws.{true-or-false, false-not-true, and-left, and-right, and-both, or-cases}
 use Rattle.obligations.proofs.SetLaws.{lt-or-le, member-none, member-activity, no-members}
+use Rattle.obligations.proofs.MemberLaws.{members-walk}
+use Rattle.obligations.proofs.LowestLaws.{lowest-activity, lowest-member, none-below}
 use Rattle.net.specs.Lists.{listed}
 use Rattle.net.specs.Refusals.{accepted, refused, on-no-walk}
-use Rattle.net.specs.Sides.{masksOf, lengthsOf, setsOn}
+use Rattle.net.specs.Sides.{masksOf, lengthsOf, setsOn, Masks}
 use Rattle.net.specs.Orderly.{orderly}
 use Rattle.net.specs.declared.Net.{Net}
 use Rattle.net.proofs.OrderlyLaws.{orderly-facts, on-side-activity}
@@ -25,12 +27,16 @@ use Rattle.walks.specs.Arcs.{arcs}
 use Rattle.walks.specs.Walks.{InNet, the-start, the-end, with-a-set, in-a-set, OnWalk, Passes}
 use Rattle.walks.specs.Rows.{reach}
 use Rattle.walks.specs.Check.{inNet, successors, predecessors, outside, lost, lowest, lostSays, checkSays}
-use Rattle.walks.specs.Statements.{Masks, LowestLost}
-use Rattle.walks.proofs.BoolLaws.{or-cases}
+use Rattle.walks.specs.Statements.{LowestLost}
 use Rattle.walks.proofs.BelowLaws.{member-those-at}
-use Rattle.walks.proofs.LowestLaws.{lowest-activity, lowest-member, lowest-is, none-below}
 use Rattle.walks.proofs.LinkLaws.{lost-lt}
 use Rattle.walks.proofs.WalkLaws.{in-net-facts, on-walk-facts}
+
+-- ---- the lowest member of a set is found by trailing zeros
+
+pub lowest-is : (m : ℕ) → 0 < m → m < 2 ^ 32 → lowest m ≡ trailingZeros 32 m
+unfolding lowest
+lowest-is m some small = ap (λ (l : List ℕ). getD l 0 0) (members-walk m some small)
 
 -- ---- what is named is an activity
 

@@ -2,6 +2,7 @@
 use Prim.Native.Nat.{ℕ}
 use mathlib.Core.Path.{_≡_, refl}
 use mathlib.Core.List.{List, [], _∷_, map}
+use Rattle.obligations.specs.Tests.{number}
 use Rattle.obligations.specs.Sets.{bit, member, single, union, keep, membersFrom, members}
 use Rattle.net.specs.Lists.{allBelow, listed, ascendsAbove, zeros, insert}
 use Rattle.net.specs.Refusals.{accepted, refused}
@@ -11,7 +12,7 @@ use Rattle.net.specs.Put.{misplaced, sideSays, putSays, grows, putGives}
 use Rattle.net.specs.declared.Net.{Net}
 use Rattle.net.specs.declared.Side.{Side}
 use Rattle.net.specs.declared.Side.the-variants.{Input, Output}
-use Rattle.walks.specs.Below.{anyBelow, countBelow, sumBelow, withIf, thoseBelow, those}
+use Rattle.walks.specs.Below.{anyBelow, sumBelow, withIf, thoseBelow, those}
 use Rattle.walks.specs.Arcs.{named, names, arc, arcs}
 use Rattle.walks.specs.Rows.{rowsFrom, rows, unionFrom, grown, rounds, reach}
 use Rattle.walks.specs.Check.{onSides, inNet, successors, predecessors, outside, lost, lowest, lostSays, checkSays}
@@ -38,5 +39,5 @@ loop : Net
 loop = puts (puts (puts (puts (freshNet 0 2) Output 0 (2 ∷ [])) Input 1 (1 ∷ 2 ∷ [])) Output 1 (2 ∷ 4 ∷ [])) Input 2 (2 ∷ [])
 
 says : map checkSays (F ∷ named-only ∷ twice ∷ loop ∷ freshNet 7 3 ∷ freshNet 3 3 ∷ []) ≡ accepted 4 ∷ refused 6 5 ∷ accepted 4 ∷ accepted 3 ∷ refused 6 3 ∷ refused 2 0 ∷ []
-unfolding F named-only twice loop puts freshNet putGives grows putSays sideSays misplaced insert listed checkSays lostSays lowest lost outside successors predecessors inNet onSides reach rounds grown unionFrom rows rowsFrom arcs arc names named those thoseBelow withIf sumBelow countBelow anyBelow orderly sized endsOk sidesOk blockOk allBelow ascendsAbove zeros members membersFrom keep union single member bit
+unfolding F named-only twice loop puts freshNet putGives grows putSays sideSays misplaced insert listed checkSays lostSays lowest lost outside successors predecessors inNet onSides reach rounds grown unionFrom rows rowsFrom arcs arc names named those thoseBelow withIf sumBelow number anyBelow orderly sized endsOk sidesOk blockOk allBelow ascendsAbove zeros members membersFrom keep union single member bit
 says = refl

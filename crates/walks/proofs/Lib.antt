@@ -1,7 +1,4 @@
 -- The laws of the definitions in specs/, by concept.
-pub mod BoolLaws
-pub mod SetLaws
-pub mod LowestLaws
 pub mod BelowLaws
 pub mod AlongLaws
 pub mod RowLaws

@@ -9,20 +9,20 @@ use native.Mathlib.Omega.{arith}
 use borrow.Author.Tests.{lt-ltb}
 use lib.Dec.{eqb, ltb, lit<}
 use lib.ListN.{length, getD}
+use Rattle.obligations.specs.Tests.{number}
 use Rattle.obligations.specs.Sets.{member, single, union, minus, size}
-use Rattle.obligations.proofs.BoolLaws.{false-not-true, same-test}
+use Rattle.obligations.proofs.BoolLaws.{false-not-true, same-test, or-left, or-right, or-cases}
 use Rattle.obligations.proofs.SetLaws.{member-single, member-union, member-minus, member-with, union-lt, minus-lt}
 use Rattle.net.specs.Sides.{masksOf, lengthsOf, sideIn, setsOn}
 use Rattle.net.specs.declared.Net.{Net}
 use Rattle.net.specs.declared.Side.{Side}
 use Rattle.net.specs.declared.Side.the-variants.{Input, Output}
-use Rattle.walks.specs.Below.{anyBelow, countBelow, those}
+use Rattle.walks.specs.Below.{anyBelow, those}
 use Rattle.walks.specs.Arcs.{named, names, arc, arcs}
 use Rattle.walks.specs.Rows.{has, rows, reach}
 use Rattle.walks.specs.Check.{onSides, inNet, successors, predecessors, outside, lost}
 use Rattle.walks.specs.Links.{unionOf, namedRows, linked, links, filled, sizes, RowWalks, Walks}
 use Rattle.walks.specs.declared.Walked.{Walked}
-use Rattle.walks.proofs.BoolLaws.{or-left, or-right, or-cases}
 use Rattle.walks.proofs.BelowLaws.{any-true, true-any, any-ext, member-those-at, those-are, those-lt, sum-ext, size-those}
 use Rattle.walks.proofs.RowLaws.{rows-long, rows-at, rows-all, rows-ext, has-row, member-union-of, sizes-rows}
 use Rattle.walks.proofs.ReachLaws.{Small, reach-lt}
@@ -106,7 +106,7 @@ module _ (net : Net) where
 
   pub sizes-successors : sizes (successors net) ≡ arcs net
   unfolding successors arcs
-  sizes-successors = sizes-rows (λ p. those (λ q. arc net p q)) ∙ sum-ext 32 (λ p. size (those (λ q. arc net p q))) (λ p. countBelow 32 (λ q. arc net p q)) (λ p h. size-those (λ q. arc net p q))
+  sizes-successors = sizes-rows (λ p. those (λ q. arc net p q)) ∙ sum-ext 32 (λ p. size (those (λ q. arc net p q))) (λ p. number 32 (λ q. arc net p q)) (λ p h. size-those (λ q. arc net p q))
 
   -- ---- the net's activities, and those outside one of two sets
 

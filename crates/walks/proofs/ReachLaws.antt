@@ -12,15 +12,13 @@ use borrow.Author.Tests.{eqb-true}
 use lib.Dec.{eqb, lit<}
 use lib.ListN.{getD}
 use Rattle.obligations.specs.Sets.{member, single, union, minus, members, size}
-use Rattle.obligations.proofs.BoolLaws.{false-not-true, same-test}
-use Rattle.obligations.proofs.SetLaws.{member-none, member-union, member-with, single-lt, union-lt, set-ext}
-use Rattle.obligations.proofs.MemberLaws.{members-are, size-none}
+use Rattle.obligations.proofs.BoolLaws.{false-not-true, same-test, or-left, or-right, or-cases}
+use Rattle.obligations.proofs.SetLaws.{member-none, member-union, member-with, single-lt, union-lt, set-ext, single-has, single-only, minus-some}
+use Rattle.obligations.proofs.MemberLaws.{members-are, size-none, size-le}
 use Rattle.walks.specs.Arcs.{named}
 use Rattle.walks.specs.Walks.{Along, here}
 use Rattle.walks.specs.Rows.{has, Has, unionFrom, rowsAt, grown, rounds, reach}
-use Rattle.walks.proofs.BoolLaws.{or-left, or-right, or-cases}
-use Rattle.walks.proofs.BelowLaws.{size-le, size-lt}
-use Rattle.walks.proofs.SetLaws.{single-has, single-only, minus-some}
+use Rattle.walks.proofs.BelowLaws.{size-lt}
 use Rattle.walks.proofs.AlongLaws.{along-one, along-join, along-kept}
 use Rattle.walks.proofs.RowLaws.{member-union-from}
 
@@ -128,7 +126,7 @@ module _ (next : List ℕ) where
       -- a further round adds nothing, since a set has at most 32 members
       reach-still : grown next (reach next from) ≡ reach next from
       unfolding reach
-      reach-still = ⊎-elim (λ e. e) (λ l. absurd (omega (arith, one, size-le (reach next from) (reach-lt from)))) (rounds-fill _ (single from) (single-lt from))
+      reach-still = ⊎-elim (λ e. e) (λ l. absurd (omega (arith, one, size-le (reach next from)))) (rounds-fill _ (single from) (single-lt from))
 
       pub reach-closed : Closed next (reach next from)
       unfolding Closed

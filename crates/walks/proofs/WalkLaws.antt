@@ -10,7 +10,7 @@ use borrow.Author.Tests.{eq-eqb, eqb-true, eqb-false, not-true}
 use lib.Dec.{eqb}
 use lib.ListN.{length, getD}
 use Rattle.obligations.specs.Sets.{member}
-use Rattle.obligations.proofs.BoolLaws.{true-or-false, false-not-true, and-left, and-right, and-both}
+use Rattle.obligations.proofs.BoolLaws.{true-or-false, false-not-true, and-left, and-right, and-both, or-left, or-right, or-cases}
 use Rattle.obligations.proofs.SetLaws.{lt-or-le}
 use Rattle.net.specs.Lists.{listed}
 use Rattle.net.specs.Sides.{lengthsOf, setsOn, OnSide}
@@ -24,7 +24,6 @@ use Rattle.walks.specs.Arcs.{Names, Arc, names, arc}
 use Rattle.walks.specs.Walks.{Walk, InNet, the-start, the-end, with-a-set, in-a-set, OnWalk}
 use Rattle.walks.specs.Rows.{Has, reach}
 use Rattle.walks.specs.Check.{onSides, inNet, successors, predecessors}
-use Rattle.walks.proofs.BoolLaws.{or-left, or-right, or-cases}
 use Rattle.walks.proofs.BelowLaws.{any-true, true-any}
 use Rattle.walks.proofs.AlongLaws.{along-map, along-back}
 use Rattle.walks.proofs.RowLaws.{rows-past, has-those}

@@ -4,12 +4,13 @@ use mathlib.Core.Path.{_≡_}
 use mathlib.Core.Bool.{Bool, true, false, _&&_, _||_}
 use mathlib.Core.List.{List, [], _∷_}
 use Rattle.obligations.specs.Limits.{activities}
+use Rattle.obligations.specs.Tests.{number}
 use Rattle.obligations.specs.Sets.{member}
 use Rattle.net.specs.Sides.{setsOn, OnSide}
 use Rattle.net.specs.declared.Net.{Net}
 use Rattle.net.specs.declared.Side.{Side}
 use Rattle.net.specs.declared.Side.the-variants.{Input, Output}
-use Rattle.walks.specs.Below.{countBelow, sumBelow}
+use Rattle.walks.specs.Below.{sumBelow}
 
 -- ---- the facts
 
@@ -39,4 +40,4 @@ arc net p q = names net Input q p && names net Output p q
 
 -- the number of arcs: how many pairs (p, q) of activities are arcs
 unfoldable pub arcs : Net → ℕ
-arcs net = sumBelow activities (λ p. countBelow activities (λ q. arc net p q))
+arcs net = sumBelow activities (λ p. number activities (λ q. arc net p q))

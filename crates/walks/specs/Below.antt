@@ -1,6 +1,6 @@
--- Tests of all numbers below a bound: whether one passes, how many do, and which.
+-- Tests of all numbers below a bound: whether one passes, and which do; and sums.
 use Prim.Native.Nat.{ℕ, zero, suc, _+_}
-use mathlib.Core.Bool.{Bool, true, false, cond, _||_}
+use mathlib.Core.Bool.{Bool, true, false, _||_}
 use Rattle.obligations.specs.Limits.{activities}
 use Rattle.obligations.specs.Sets.{single, union}
 
@@ -8,11 +8,6 @@ use Rattle.obligations.specs.Sets.{single, union}
 unfoldable pub anyBelow : ℕ → (ℕ → Bool) → Bool
 anyBelow zero test = false
 anyBelow (suc n) test = anyBelow n test || test n
-
--- how many numbers below n pass the test
-unfoldable pub countBelow : ℕ → (ℕ → Bool) → ℕ
-countBelow zero test = 0
-countBelow (suc n) test = countBelow n test + cond (test n) 1 0
 
 -- the sum of f at each number below n
 unfoldable pub sumBelow : ℕ → (ℕ → ℕ) → ℕ

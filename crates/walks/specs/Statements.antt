@@ -3,23 +3,18 @@ use Prim.Native.Nat.{ℕ, _<_}
 use mathlib.Core.Path.{_≡_}
 use mathlib.Core.Logic.{_↔_}
 use mathlib.Core.Bool.{true}
-use lib.ListN.{getD}
-use Rattle.obligations.specs.Limits.{masks}
 use Rattle.net.specs.Refusals.{accepted, refused, disorderly, on-no-walk}
-use Rattle.net.specs.Sides.{masksOf}
+use Rattle.net.specs.Sides.{Masks}
 use Rattle.net.specs.Orderly.{Orderly}
 use Rattle.net.specs.Contained.{Contained}
 use Rattle.net.specs.declared.Net.{Net}
-use Rattle.net.specs.declared.Side.{Side}
 use Rattle.walks.specs.Arcs.{Arc, arc, arcs}
 use Rattle.walks.specs.Walks.{Walk, InNet, OnWalk, Passes}
 use Rattle.walks.specs.Check.{checkSays}
 
--- every mask of the record has 32 bits, as in every record of a program. Without it a set could name a number above 31, which
--- would be in the net and on no walk, and which a check over 32 activities does not see. It is needed from what is accepted to
--- what passes, and from the lowest on no walk to what is refused; the other ways hold of every record.
-abbrev pub Masks : Net → Type 0
-Masks net = (side : Side) (i : ℕ) → getD (masksOf net side) i 0 < masks
+-- Where `Masks` is asked for: without it a set could name a number above 31, which would be in the net and on no walk, and
+-- which a check over 32 activities does not see. It is needed from what is accepted to what passes, and from the lowest on no
+-- walk to what is refused; the other ways hold of every record.
 
 -- a is the lowest of the net's activities that are on no walk from start to end
 pub record LowestLost (net : Net) (a : ℕ) : Type 0 where

@@ -7,10 +7,10 @@ use borrow.Author.Needs.{needs}
 use denote.Ref.{now}
 use lib.ListN.{length, drop, length-append}
 use lib.Seq.{length-take-le}
+use Rattle.text.proofs.StoreLaws.{Storing, storing-start, storing-room, storing-more, storing-end}
 use Rattle.net.specs.declared.Side.the-variants.{Input, Output}
 use Rattle.net.proofs.OrderlyLaws.{orderly-arrays}
 use Rattle.logfile.specs.Limits.{logRows}
-use Rattle.netfile.proofs.StoreLaws.{Storing, storing-start, storing-room, storing-more, storing-end}
 use Rattle.search.specs.Replay.{replaySaid}
 use Rattle.report.specs.Report.{rowText, rowsText}
 use Rattle.report.proofs.AnswerLaws.{not-row, front-is, row-fits}

@@ -8,7 +8,7 @@ use native.Mathlib.Omega.{arith}
 use Rattle.net.specs.Orderly.{orderly}
 use Rattle.walks.specs.Check.{lost, lostSays, checkSays}
 use Rattle.walks.proofs.LinkLaws.{lost-lt}
-use Rattle.walks.proofs.LowestLaws.{lowest-is}
+use Rattle.walks.proofs.CheckLaws.{lowest-is}
 use Rattle.walks.proofs.check.Statement.{statement}
 use Rattle.walks.proofs.check.Tie as tie
 

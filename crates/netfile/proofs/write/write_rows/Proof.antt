@@ -6,11 +6,11 @@ use borrow.Author.Needs.{needs}
 use denote.Ref.{now}
 use Rattle.obligations.specs.Limits.{activities}
 use Rattle.text.specs.Lines.{unlines}
+use Rattle.text.proofs.StoreLaws.{Storing, storing-start, storing-room, storing-more, storing-end}
 use Rattle.net.specs.declared.Side.the-variants.{Input, Output}
 use Rattle.net.proofs.OrderlyLaws.{orderly-arrays}
 use Rattle.netfile.specs.NetFile.{sideLines, activityLines}
 use Rattle.netfile.proofs.TextLaws.{activities-step, activities-none}
-use Rattle.netfile.proofs.StoreLaws.{Storing, storing-start, storing-room, storing-more, storing-end}
 use Rattle.netfile.proofs.write.write_rows.Statement.{statement}
 use Rattle.netfile.proofs.write.write_rows.Tie as tie
 

@@ -5,9 +5,9 @@ use borrow.Author.Needs.{needs}
 use denote.Ref.{now}
 use lib.ListN.{length, drop, getD}
 use Rattle.text.specs.Lines.{unlines}
+use Rattle.text.proofs.StoreLaws.{Storing, storing-start, storing-room, storing-more, storing-end}
 use Rattle.netfile.specs.NetFile.{setLines, setsLines}
 use Rattle.netfile.proofs.TextLaws.{sets-step, sets-none}
-use Rattle.netfile.proofs.StoreLaws.{Storing, storing-start, storing-room, storing-more, storing-end}
 use Rattle.netfile.proofs.write.write_sets.Statement.{statement}
 use Rattle.netfile.proofs.write.write_sets.Tie as tie
 

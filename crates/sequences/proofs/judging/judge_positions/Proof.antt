@@ -7,7 +7,7 @@ use lib.Count.{trailingZeros}
 use Rattle.obligations.specs.Sequence.{bindings}
 use Rattle.walks.specs.Check.{lost, lowest}
 use Rattle.walks.proofs.LinkLaws.{lost-lt}
-use Rattle.walks.proofs.LowestLaws.{lowest-is}
+use Rattle.walks.proofs.CheckLaws.{lowest-is}
 use Rattle.sequences.specs.Judge.{PositionsJudged}
 use Rattle.sequences.specs.declared.JudgeAnswer.the-variants.{Refused}
 use Rattle.sequences.proofs.WordLaws.{shaped-same}

@@ -4,7 +4,8 @@ use native.Mathlib.Omega.{arith}
 use borrow.Author.Needs.{needs}
 use lib.ListN.{length}
 use Rattle.text.specs.Members.{printMembers}
-use Rattle.text.proofs.MemberWriteLaws.{print-none, rest-less, lowest-activity, Counted, counted-start, counted-short, counted-more, counted-end}
+use Rattle.obligations.proofs.LowestLaws.{lowest-activity}
+use Rattle.text.proofs.MemberWriteLaws.{print-none, rest-less, Counted, counted-start, counted-short, counted-more, counted-end}
 use Rattle.text.proofs.members.members_width.Statement.{statement}
 use Rattle.text.proofs.members.members_width.Tie as tie
 

@@ -8,7 +8,8 @@ use lib.Bits.{bitAnd}
 use lib.ListN.{length}
 use Rattle.text.specs.Members.{printMembers}
 use Rattle.text.proofs.WriteLaws.{wrote-nothing}
-use Rattle.text.proofs.MemberWriteLaws.{print-none, rest-less, lowest-activity, Writing, first-room, others-room, wrote-members, writing-start, writing-room, writing-more, writing-end}
+use Rattle.obligations.proofs.LowestLaws.{lowest-activity}
+use Rattle.text.proofs.MemberWriteLaws.{print-none, rest-less, Writing, first-room, others-room, wrote-members, writing-start, writing-room, writing-more, writing-end}
 use Rattle.text.proofs.members.write_members.Statement.{statement}
 use Rattle.text.proofs.members.write_members.Tie as tie
 

@@ -8,13 +8,12 @@ use borrow.Author.Needs.{needs}
 use denote.Ref.{now}
 use lib.Count.{trailingZeros}
 use Rattle.obligations.specs.Sets.{member, single}
-use Rattle.obligations.proofs.SetLaws.{minus-lt}
+use Rattle.obligations.proofs.SetLaws.{minus-lt, without-lt}
 use Rattle.walks.specs.Below.{withIf}
 use Rattle.walks.specs.Rows.{has}
 use Rattle.walks.specs.Links.{linked}
 use Rattle.walks.proofs.BelowLaws.{with-if-lt}
-use Rattle.walks.proofs.SetLaws.{without-lt}
-use Rattle.walks.proofs.LowestLaws.{lowest-activity, lowest-member}
+use Rattle.obligations.proofs.LowestLaws.{lowest-activity, lowest-member}
 use Rattle.walks.proofs.SiftLaws.{Sifted, sift-first, sift-next, sift-end}
 use Rattle.walks.proofs.arcs.linked.Statement.{statement}
 use Rattle.walks.proofs.arcs.linked.Tie as tie

@@ -8,7 +8,7 @@ use denote.Ref.{now}
 use lib.ListN.{length, getD, drop}
 use Rattle.obligations.specs.Sets.{size}
 use Rattle.walks.specs.Links.{sizes}
-use Rattle.walks.proofs.BelowLaws.{size-le}
+use Rattle.obligations.proofs.MemberLaws.{size-le}
 use Rattle.walks.proofs.RowLaws.{sizes-next, sizes-end}
 use Rattle.walks.proofs.arcs.sizes.Statement.{statement}
 use Rattle.walks.proofs.arcs.sizes.Tie as tie
@@ -35,7 +35,7 @@ size-requires c κs = search needs
 row : (c : tie.After-size Inv-loop μ-loop)
     → let m = getD (now (c .before .before .before .before .before .args .rows)) (c .before .before .before .loop .i) 0 in
     (c .size .result ≡ size m) × (size m ≤ 32)
-row c = (c .size .ensures, size-le _ (c .before .shared-slice-known2 .given (c .before .before .before .loop .i) .fits))
+row c = (c .size .ensures, size-le _)
 
 add-n : tie.Need-add-n Inv-loop μ-loop
 add-n c = omega (arith, row c .0, row c .1)

@@ -1,6 +1,6 @@
 -- `without_lowest` meets its contract: a mask and the number before it have in common all but the lowest member. Assumes nothing.
 use native.Mathlib.Omega.{arith}
-use Rattle.walks.proofs.LowestLaws.{without-lowest}
+use Rattle.obligations.proofs.LowestLaws.{without-lowest}
 use Rattle.walks.proofs.arcs.without_lowest.Statement.{statement}
 use Rattle.walks.proofs.arcs.without_lowest.Tie as tie
 

@@ -8,9 +8,8 @@ use borrow.Author.Needs.{needs}
 use denote.Ref.{now}
 use lib.Count.{trailingZeros}
 use Rattle.obligations.specs.Sets.{member, minus}
-use Rattle.obligations.proofs.SetLaws.{minus-lt}
-use Rattle.walks.proofs.SetLaws.{with-gt, minus-member}
-use Rattle.walks.proofs.LowestLaws.{lowest-activity, lowest-member}
+use Rattle.obligations.proofs.SetLaws.{minus-lt, with-gt, minus-member}
+use Rattle.obligations.proofs.LowestLaws.{lowest-activity, lowest-member}
 use Rattle.walks.proofs.ReachLaws.{Small, Search, search-first, search-open, search-next, search-end}
 use Rattle.walks.proofs.reach.reach.Statement.{statement}
 use Rattle.walks.proofs.reach.reach.Tie as tie

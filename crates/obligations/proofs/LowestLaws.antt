@@ -4,31 +4,24 @@ use Prim.Native.Nat.{ℕ, zero, suc, _+_, _-_, _*_, _/_, _%_, _^_, _<_, min}
 use mathlib.Core.Path.{_≡_, refl, sym, ap, _∙_}
 use mathlib.Core.Logic.{⊎-elim}
 use mathlib.Core.Bool.{true, false}
-use mathlib.Core.List.{List, List·Memᴰ·head}
+use mathlib.Core.List.{List·Memᴰ·head}
 use native.Mathlib.Nat.{pow-suc, mod-eq-of-lt}
 use native.Mathlib.Omega.{arith}
 use borrow.Author.Tests.{lt-ltb}
-use lib.Bits.{bitAnd, and-step, and-self, and-mask}
+use lib.Bits.{bitAnd, and-step, and-mask}
 use lib.Count.{trailingZeros, under}
-use lib.ListN.{getD}
 use lib.Pow.{pow-pos, pow-lt}
 use Rattle.obligations.specs.Sets.{bit, member, single, minus}
 use Rattle.obligations.proofs.BitLaws.{half-lt, parity, bit-zero, bit-suc}
 use Rattle.obligations.proofs.SetLaws.{member-bit}
-use Rattle.obligations.proofs.MemberLaws.{members-walk, members-are}
-use Rattle.obligations.proofs.MemberLaws as MemberLaws
-use Rattle.walks.specs.Check.{lowest}
+use Rattle.obligations.proofs.MemberLaws.{lowest-digit, drop-lowest, members-walk, members-are}
 
 module _ (m : ℕ) (some : 0 < m) (small : m < 2 ^ 32) where
   pub lowest-activity : trailingZeros 32 m < 32
-  lowest-activity = MemberLaws.lowest 32 m some small .0
+  lowest-activity = lowest-digit 32 m some small .0
 
   pub lowest-member : member m (trailingZeros 32 m) ≡ true
   lowest-member = members-are m (trailingZeros 32 m) small .0 (rw (members-walk m some small) (List·Memᴰ·head refl))
-
-  pub lowest-is : lowest m ≡ trailingZeros 32 m
-  unfolding lowest
-  lowest-is = ap (λ (l : List ℕ). getD l 0 0) (members-walk m some small)
 
 no-bit-below : (n m k : ℕ) → k < trailingZeros n m → bit m k ≡ 0
 unfolding trailingZeros
@@ -43,24 +36,6 @@ unfolding member
 none-below m k h = rw (no-bit-below 32 m k h)
 
 -- ---- the set without it
-
--- a mask and the number before it have in common all but the lowest member
-and-pred : (n m : ℕ) → 0 < m → m < 2 ^ n → bitAnd m (m - 1) + 2 ^ trailingZeros n m ≡ m
-unfolding trailingZeros
-and-pred zero m p h = absurd (omega arith)
-and-pred (suc n) m p h = ⊎-elim (λ e. even e (and-pred n (m / 2) (omega arith) (half-lt m n h))) odd (parity m)
-  where
-    even : m % 2 ≡ 0 → bitAnd (m / 2) (m / 2 - 1) + 2 ^ trailingZeros n (m / 2) ≡ m / 2 → bitAnd m (m - 1) + 2 ^ under (m % 2) (trailingZeros n (m / 2)) ≡ m
-    even e ih =
-        let q : (m - 1) / 2 ≡ m / 2 - 1 = omega arith in
-        let s = and-step m (m - 1) ∙ ap (λ (x : ℕ). bitAnd (m / 2) x * 2 + min (m % 2) ((m - 1) % 2)) q in
-        rw e (omega (arith, s, pow-suc 2 (trailingZeros n (m / 2))))
-
-    odd : m % 2 ≡ 1 → bitAnd m (m - 1) + 2 ^ under (m % 2) (trailingZeros n (m / 2)) ≡ m
-    odd e =
-        let q : (m - 1) / 2 ≡ m / 2 = omega arith in
-        let s = and-step m (m - 1) ∙ ap (λ (x : ℕ). bitAnd (m / 2) x * 2 + min (m % 2) ((m - 1) % 2)) q in
-        rw e (omega (arith, s, and-self (m / 2)))
 
 -- a mask without the digit k, which is set
 and-without : (n m k : ℕ) → m < 2 ^ n → k < n → bit m k ≡ 1 → bitAnd m ((2 ^ n - 1) - 2 ^ k) + 2 ^ k ≡ m
@@ -83,4 +58,4 @@ pub without-lowest : (m : ℕ) → 0 < m → m < 2 ^ 32 → bitAnd m (m - 1) ≡
 unfolding minus single
 without-lowest m p h =
     let l = lowest-activity m p h in
-    rw (lt-ltb (trailingZeros 32 m) 32 l) (omega (arith, and-pred 32 m p h, and-without 32 m (trailingZeros 32 m) h l (member-bit m (trailingZeros 32 m) (lowest-member m p h))))
+    rw (lt-ltb (trailingZeros 32 m) 32 l) (omega (arith, drop-lowest 32 m p h, lowest-digit 32 m p h .1, and-without 32 m (trailingZeros 32 m) h l (member-bit m (trailingZeros 32 m) (lowest-member m p h))))
