@@ -17,6 +17,10 @@ pub enum Answer {
     Done,
     // The text register was filled with the bytes that follow the line.
     Taken,
+    // It could not be; the next line starts here.
+    Untaken {
+        next: usize,
+    },
     // The text register is shown.
     Shown,
     Value {
@@ -74,6 +78,7 @@ pub fn write_answer(out: &mut [u8], at: usize, answer: Answer, words: &[u32], te
     match answer {
         Answer::Silent => at,
         Answer::Bad => append(out, at, b"?\n"),
+        Answer::Untaken { next: _ } => append(out, at, b"?\n"),
         Answer::Done => append(out, at, b"ok\n"),
         Answer::Taken => append(out, at, b"ok\n"),
         Answer::Shown => write_text(out, at, text),

@@ -8,6 +8,7 @@ mod answer;
 mod buffers;
 mod line;
 mod net_calls;
+mod numbers;
 mod output;
 mod registers;
 mod sequence_calls;
@@ -25,7 +26,7 @@ use line::run_line;
 use output::flush;
 use registers::clear;
 use text::bytes::find_byte;
-ghost use Prim.Native.Nat.{_≤_};
+ghost use Prim.Native.Nat.{_≤_, _<_};
 ghost use lib.ListN.{length};
 
 // A script has at most this many bytes.
@@ -69,10 +70,19 @@ fn run_lines(script: &[u8], text: &mut [u8], words: &mut [u32], bytes: &mut [u8]
             bytes,
         );
         at = write_answer(out, at, answer, words, &text[..text_len]);
-        i = match answer {
-            Answer::Taken => e + text_len + 2,
-            _ => e + 1,
-        };
+        i = next_line(e, answer, text_len);
     }
     flush(out, at);
+}
+
+// Where the line after one that ends at e starts: behind the bytes of a text, if it had one.
+fn next_line(e: usize, answer: Answer, text_len: usize) -> usize
+    requires { ⌜ (e ≤ 4194304) × («text_len» ≤ 524289) ⌝ }
+    ensures { λ r. ⌜ e < r ⌝ }
+{
+    match answer {
+        Answer::Taken => e + text_len + 2,
+        Answer::Untaken { next } => { if e < next { next } else { e + 1 } }
+        _ => e + 1,
+    }
 }

@@ -1,7 +1,9 @@
-// A line of a script: its numbers, and the command that its word names.
+// A line of a script: the command that its word names is run with its numbers.
 
 use crate::answer::Answer;
 use crate::net_calls;
+use crate::numbers::read_numbers;
+use crate::numbers::words_from;
 use crate::registers;
 use crate::registers::REGISTERS;
 use crate::sequence_calls;
@@ -11,20 +13,6 @@ use text::bytes::find_byte;
 use text::bytes::same_bytes;
 ghost use Prim.Native.Nat.{_≤_, _<_};
 ghost use lib.ListN.{length};
-ghost use Rattle.io.specs.Counts.{Counts};
-
-// A word has 32 bits.
-const MOST_WORD: u64 = 4294967295;
-
-// The most that 64 bits hold, and that without its last digit.
-const MOST: u64 = 18446744073709551615;
-
-const MOST_TENTH: u64 = 1844674407370955161;
-
-enum Number {
-    Value(u64),
-    Bad,
-}
 
 // Runs the line script[i..e]. One that isn't ended by LF is no command, nor is one with a field that is no number: there
 // are as many numbers as spaces.
@@ -187,84 +175,4 @@ fn run_on_sequence(
         return sequence_calls::follow(records, r, args);
     }
     Answer::Bad
-}
-
-// Copies the numbers from index `from` on, as words, and returns how many it copied: it stops at one that is no word.
-pub fn words_from(numbers: &[u64], from: usize, words: &mut [u32]) -> usize
-    ensures { λ r. ⌜ Counts r (now (words .exit)) ⌝ }
-{
-    let mut n = 0;
-    let mut i = from;
-    while i < numbers.len() {
-        if words.len() <= n {
-            return n;
-        }
-        let number = numbers[i];
-        if MOST_WORD < number {
-            return n;
-        }
-        words[n] = number as u32;
-        n += 1;
-        i += 1;
-    }
-    n
-}
-
-// Reads the numbers of script[w..e], each behind one space, and returns how many it read: it stops at a field that is no
-// number.
-fn read_numbers(script: &[u8], w: usize, e: usize, numbers: &mut [u64]) -> usize
-    requires { ⌜ (w ≤ e) × (e ≤ length (now script)) ⌝ }
-    ensures { λ r. ⌜ Counts r (now (numbers .exit)) ⌝ }
-{
-    let mut k = w;
-    let mut n: usize = 0;
-    while k < e {
-        if numbers.len() <= n {
-            return n;
-        }
-        let g = find_byte(script, k + 1, e, b' ');
-        let number = read_number(script, k + 1, g);
-        let Number::Value(v) = number else {
-            return n;
-        };
-        numbers[n] = v;
-        n += 1;
-        k = g;
-    }
-    n
-}
-
-// The number in s[i..e], if it is below 2^64. Each value is compared with the most before a digit is added.
-fn read_number(s: &[u8], i: usize, e: usize) -> Number
-    requires { ⌜ (i ≤ e) × (e ≤ length (now s)) ⌝ }
-{
-    if i == e {
-        return Number::Bad;
-    }
-    if s[i] == b'0' {
-        if i + 1 < e {
-            return Number::Bad;
-        }
-    }
-    let mut k = i;
-    let mut v: u64 = 0;
-    while k < e {
-        let b = s[k];
-        if b < b'0' {
-            return Number::Bad;
-        }
-        if b'9' < b {
-            return Number::Bad;
-        }
-        let d = (b - b'0') as u64;
-        if MOST_TENTH < v {
-            return Number::Bad;
-        }
-        if MOST - v * 10 < d {
-            return Number::Bad;
-        }
-        v = v * 10 + d;
-        k += 1;
-    }
-    Number::Value(v)
 }

@@ -5,7 +5,7 @@ use crate::answer::Answer;
 use crate::answer::refused;
 use crate::buffers::fill_words;
 use crate::buffers::words_untouched;
-use crate::line::words_from;
+use crate::numbers::words_from;
 use crate::registers::load;
 use crate::registers::store;
 use net::Net;

@@ -93,7 +93,8 @@ fn keep(bytes: &[u8], text: &mut [u8], text_len: &mut usize)
     }
 }
 
-// text N: the text register becomes the N bytes from script[from] on, which an LF must follow.
+// text N: the text register becomes the N bytes from script[from] on, which an LF must follow. Bytes that it can't take are
+// passed over all the same, as they are no lines.
 pub fn text(
     script: &[u8],
     from: usize,
@@ -109,16 +110,17 @@ pub fn text(
         return Answer::Bad;
     }
     let n = numbers[0] as usize;
-    if text.len() < n {
-        return Answer::Bad;
-    }
     if script.len() - from <= n {
-        return Answer::Bad;
+        return Answer::Untaken { next: script.len() };
     }
-    if script[from + n] != b'\n' {
-        return Answer::Bad;
+    let end = from + n;
+    if script[end] != b'\n' {
+        return Answer::Untaken { next: end };
     }
-    *text_len = write_bytes(text, 0, &script[from..from + n]);
+    if text.len() < n {
+        return Answer::Untaken { next: end + 1 };
+    }
+    *text_len = write_bytes(text, 0, &script[from..end]);
     Answer::Taken
 }
 

@@ -37,29 +37,14 @@ slice-aggregate-write-answer c = sym (length-take-le _ _ (search needs))
 write-answer-requires : tie.Need-write-answer-requires Inv-loop μ-loop
 write-answer-requires c κs = search needs
 
-enum-told : tie.Need-enum-told Inv-loop μ-loop
-enum-told c = search needs
-
-add-i : tie.Need-add-i Inv-loop μ-loop
-add-i c = search needs
-
-add-i-2 : tie.Need-add-i-2 Inv-loop μ-loop
-add-i-2 c = search needs
-
-add-i-3 : tie.Need-add-i-3 Inv-loop μ-loop
-add-i-3 c = search needs
+next-line-requires : tie.Need-next-line-requires Inv-loop μ-loop
+next-line-requires c κs = search needs
 
 loop-less : tie.Need-loop-less Inv-loop μ-loop
 loop-less c = search needs
 
 loop-again : tie.Need-loop-again Inv-loop μ-loop
 loop-again c = search needs
-
-loop-less-2 : tie.Need-loop-less-2 Inv-loop μ-loop
-loop-less-2 c = search needs
-
-loop-again-2 : tie.Need-loop-again-2 Inv-loop μ-loop
-loop-again-2 c = search needs
 
 flush-requires : tie.Need-flush-requires Inv-loop μ-loop
 flush-requires c κs = search needs
@@ -92,14 +77,9 @@ run-lines-spec =
     slice-reshare-prefix-write-answer
     slice-aggregate-write-answer
     write-answer-requires
-    enum-told
-    add-i
-    add-i-2
-    add-i-3
+    next-line-requires
     loop-less
     loop-again
-    loop-less-2
-    loop-again-2
     flush-requires
     same-length
     same-length-2

@@ -2,8 +2,8 @@
 -- nothing wraps. Assumes nothing.
 use Prim.Native.Nat.{_-_, _≤_}
 use borrow.Author.Needs.{needs}
-use Rattle.script.proofs.line.read_number.Statement.{statement}
-use Rattle.script.proofs.line.read_number.Tie as tie
+use Rattle.script.proofs.numbers.read_number.Statement.{statement}
+use Rattle.script.proofs.numbers.read_number.Tie as tie
 
 abbrev Inv-loop : tie.InvT-loop
 Inv-loop s i e k₀ v₀ k v = (i ≤ k) × (k ≤ e)

@@ -5,8 +5,8 @@ use mathlib.Core.Path.{_≡_}
 use borrow.Author.Needs.{needs}
 use lib.ListN.{length}
 use Rattle.script.proofs.CountLaws.{counts}
-use Rattle.script.proofs.line.read_numbers.Statement.{statement}
-use Rattle.script.proofs.line.read_numbers.Tie as tie
+use Rattle.script.proofs.numbers.read_numbers.Statement.{statement}
+use Rattle.script.proofs.numbers.read_numbers.Tie as tie
 
 abbrev Inv-loop : tie.InvT-loop
 Inv-loop script w e numbers₀ k₀ n₀ numbers k n = (k ≤ e) × (w ≤ k) × (length numbers ≡ length numbers₀) × (n ≤ length numbers₀)

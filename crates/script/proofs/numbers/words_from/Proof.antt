@@ -5,8 +5,8 @@ use mathlib.Core.Path.{_≡_}
 use borrow.Author.Needs.{needs}
 use lib.ListN.{length}
 use Rattle.script.proofs.CountLaws.{counts}
-use Rattle.script.proofs.line.words_from.Statement.{statement}
-use Rattle.script.proofs.line.words_from.Tie as tie
+use Rattle.script.proofs.numbers.words_from.Statement.{statement}
+use Rattle.script.proofs.numbers.words_from.Tie as tie
 
 abbrev Inv-loop : tie.InvT-loop
 Inv-loop numbers from words₀ n₀ i₀ words n i = (length words ≡ length words₀) × (n ≤ length words₀)
