@@ -12,8 +12,9 @@ use lib.Dec.{eqb}
 use lib.ListN.{length, take, drop, getD, set, drop-of-length-le}
 use lib.Seq.{take-take, drop-cons, take-suc, take-suc-set, drop-set-lt, set-split}
 use borrow.Author.Tests.{eqb-false, lt-ltb}
+use Rattle.obligations.proofs.BoolLaws.{or-neither}
 use Rattle.net.specs.Lists.{listed, insert, splice, ascendsAbove}
-use Rattle.net.proofs.ListLaws.{length-part, or-neither, ascends-head, ascends-tail, ascends-weaker, ascends-not-listed}
+use Rattle.net.proofs.ListLaws.{length-part, ascends-head, ascends-tail, ascends-weaker, ascends-not-listed}
 
 -- ---- the pass over the first n places of a list, at place i with c carried
 

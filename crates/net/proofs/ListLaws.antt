@@ -5,14 +5,14 @@ use native.Mathlib.Nat.{le-refl, not-suc-le-zero, sub-zero, zero-sub, suc-sub-su
 use native.Mathlib.Numerals.{add-one}
 use native.Mathlib.Omega.{arith}
 use mathlib.Core.Path.{_≡_, refl, sym, ap, _∙_}
-use mathlib.Core.Bool.{Bool, true, false, _||_}
+use mathlib.Core.Bool.{true, false, _||_}
 use mathlib.Core.Logic.{_⊎_, inl, inr, ⊎-elim}
 use mathlib.Core.List.{List, [], _∷_, _++_}
 use lib.Dec.{ltb, eqb}
 use lib.ListN.{length, take, drop, getD, length-drop, drop-of-length-le}
 use lib.Seq.{take-all, take-nil, take-append-add, length-take-le, getD-drop, drop-cons}
 use borrow.Author.Tests.{ltb-true, eqb-true, lt-ltb, le-ltb, eq-eqb, ne-eqb}
-use Rattle.obligations.proofs.BoolLaws.{and-left, and-right, false-not-true}
+use Rattle.obligations.proofs.BoolLaws.{and-left, and-right, or-right, or-cases, false-not-true}
 use Rattle.net.specs.Lists.{listed, allListed, ascendsAbove, zeros}
 
 -- ---- parts of a list
@@ -33,20 +33,6 @@ pub take-append-over : (n : ℕ) (l other : List ℕ) → length l ≤ n → tak
 take-append-over n l other h =
     let e : length l + (n - length l) ≡ n = omega arith in
     sym (ap (λ (k : ℕ). take k (l ++ other)) e) ∙ take-append-add l other (n - length l)
-
--- ---- either test
-
-pub or-cases : (a b : Bool) → (a || b) ≡ true → (a ≡ true) ⊎ (b ≡ true)
-or-cases true b h = inl refl
-or-cases false b h = inr h
-
-pub or-right : (a b : Bool) → b ≡ true → (a || b) ≡ true
-or-right true b h = refl
-or-right false b h = h
-
-pub or-neither : (a b : Bool) → (a || b) ≡ false → (a ≡ false) × (b ≡ false)
-or-neither true b e = absurd (false-not-true e refl)
-or-neither false b e = (refl, e)
 
 -- ---- listed
 
@@ -102,7 +88,7 @@ all-listed-at m (x ∷ xs) other h k =
 pub at-all-listed : (l other : List ℕ) → ((m : ℕ) → listed m l ≡ true → listed m other ≡ true) → allListed l other ≡ true
 unfolding allListed listed
 at-all-listed [] other h = refl
-at-all-listed (x ∷ xs) other h = rw (h x (rw (eq-eqb x x refl)), at-all-listed xs other (λ m e. h m (or-right (eqb x m) (listed m xs) e)))
+at-all-listed (x ∷ xs) other h = rw (h x (rw (eq-eqb x x refl)), at-all-listed xs other (λ m e. h m (or-right (eqb x m) e)))
 
 -- ---- ascendsAbove
 
@@ -193,20 +179,17 @@ listed-first x xs = rw (eq-eqb x x refl)
 
 pub listed-later : (m x : ℕ) (xs : List ℕ) → listed m xs ≡ true → listed m (x ∷ xs) ≡ true
 unfolding listed
-listed-later m x xs h = go (eqb x m)
-  where
-    go : (t : Bool) → (t || listed m xs) ≡ true
-    go true = refl
-    go false = h
+listed-later m x xs h = or-right (eqb x m) h
 
 pub listed-cases : (m x : ℕ) (xs : List ℕ) → listed m (x ∷ xs) ≡ true → (m ≡ x) ⊎ (listed m xs ≡ true)
 unfolding listed
-listed-cases m x xs h = go (eqb x m) refl h
-  where
-    go : (t : Bool) → eqb x m ≡ t → (t || listed m xs) ≡ true → (m ≡ x) ⊎ (listed m xs ≡ true)
-    go true e k = inl (sym (eqb-true x m e))
-    go false e k = inr k
+listed-cases m x xs h = ⊎-elim (λ e. inl (sym (eqb-true x m e))) (λ e. inr e) (or-cases (eqb x m) (listed m xs) h)
 
 pub listed-none : (m : ℕ) → listed m [] ≡ true → ⊥
 unfolding listed
 listed-none m h = false-not-true refl h
+
+-- every element of a list is below a bound that each place obeys
+pub listed-below : (n m : ℕ) (l : List ℕ) → ((i : ℕ) → i < length l → getD l i 0 < n) → listed m l ≡ true → m < n
+listed-below n m [] f e = absurd (listed-none m e)
+listed-below n m (x ∷ xs) f e = ⊎-elim (λ q. rw q (f 0 (omega arith))) (λ q. listed-below n m xs (λ i h. f (suc i) (omega arith)) q) (listed-cases m x xs e)

@@ -1,7 +1,6 @@
 -- Laws of a put on one side, in the arrays: what an accepted one leaves on each side, that every side stays as it has
 -- to be, and by how much the lengths grow. Each is by cases on the answer. Assumes nothing.
-use Prim.Native.Nat.{ℕ, zero, suc, _+_, _<_, _≤_}
-use native.Mathlib.Nat.{not-suc-le-zero}
+use Prim.Native.Nat.{ℕ, _+_, _<_, _≤_}
 use native.Mathlib.Decide.{ℕ-discrete as decEq, decLt}
 use native.Mathlib.Omega.{arith}
 use mathlib.Core.Path.{_≡_, refl, sym, _∙_}
@@ -13,13 +12,14 @@ use lib.ListN.{length, getD, set, List·getD-eq-default}
 use borrow.Author.Tests.{eqb-true, eqb-false, not-false, eq-eqb, ne-eqb}
 use Rattle.obligations.specs.Limits.{activities}
 use Rattle.obligations.specs.State.{total}
-use Rattle.obligations.proofs.BoolLaws.{true-or-false, false-not-true, and-left, and-right}
+use Rattle.obligations.proofs.BoolLaws.{true-or-false, false-not-true, and-left, and-right, or-right, or-cases}
+use Rattle.obligations.proofs.TotalLaws.{total-raise}
 use Rattle.net.specs.Limits.{sets}
 use Rattle.net.specs.Refusals.{Says, accepted, refused, misplaced-set, full-side}
 use Rattle.net.specs.Lists.{listed}
 use Rattle.net.specs.Sides.{sideIn}
 use Rattle.net.specs.Put.{misplaced, sideSays, grows, grownMasks, grownLengths, putMasks, putLengths}
-use Rattle.net.proofs.ListLaws.{or-cases, or-right, one-listed}
+use Rattle.net.proofs.ListLaws.{one-listed}
 use Rattle.net.proofs.InsertLaws.{listed-insert}
 use Rattle.net.proofs.SideLaws.{OrderlySides, side-at-most, side-just-empty}
 use Rattle.net.proofs.GrownLaws.{grown-side-same, grown-side-other, grown-orderly-sides}
@@ -85,17 +85,11 @@ module _ (masks lengths : List ℕ) (empty a m : ℕ) where
 
 -- ---- the lengths
 
-total-more : (l : List ℕ) (i : ℕ) → i < length l → total (set l i (getD l i 0 + 1)) ≡ total l + 1
-unfolding total
-total-more [] i h = absurd (not-suc-le-zero h)
-total-more (x ∷ xs) zero h = omega arith
-total-more (x ∷ xs) (suc i) h = omega (arith, total-more xs i (omega arith))
-
 -- the value said is the growth of the lengths
 pub put-side-total : (masks lengths : List ℕ) (empty a m : ℕ) → a < length lengths → total (putLengths masks lengths empty a m) ≡ total lengths + sideSays masks lengths empty a m .value
 unfolding putLengths sideSays
 put-side-total masks lengths empty a m h =
-    chain-total (misplaced empty a m) (listed m (sideIn masks lengths a)) (eqb (getD lengths a 0) sets) lengths (grownLengths lengths a) (total-more lengths a h)
+    chain-total (misplaced empty a m) (listed m (sideIn masks lengths a)) (eqb (getD lengths a 0) sets) lengths (grownLengths lengths a) (total-raise lengths a h)
 
 -- ---- the sides
 
@@ -151,7 +145,7 @@ module _ (masks lengths : List ℕ) (empty a m : ℕ) (o : OrderlySides masks le
       → (listed x (sideIn (putMasks masks lengths empty a m) (putLengths masks lengths empty a m) b) ≡ true) ↔ ((listed x (sideIn masks lengths b) ≡ true) ⊎ ((b ≡ a) × (x ≡ m)))
   put-side-holds ok b x = (
     (λ e. ⊎-elim (λ t. inl t) (λ t. inr (apart t)) (or-cases (listed x (sideIn masks lengths b)) (eqb b a && eqb m x) (sym (put-side-listed ok b x) ∙ e))),
-    (λ w. put-side-listed ok b x ∙ ⊎-elim (λ t. rw t) (λ t. or-right (listed x (sideIn masks lengths b)) (eqb b a && eqb m x) (together t)) w),
+    (λ w. put-side-listed ok b x ∙ ⊎-elim (λ t. rw t) (λ t. or-right (listed x (sideIn masks lengths b)) (together t)) w),
   )
     where
       apart : (eqb b a && eqb m x) ≡ true → (b ≡ a) × (x ≡ m)

@@ -6,17 +6,19 @@ use mathlib.Core.Path.{_≡_, sym, _∙_}
 use mathlib.Core.Bool.{Bool, true, false, _&&_}
 use mathlib.Core.List.{List, [], _∷_}
 use lib.Dec.{leb, eqb}
-use lib.ListN.{length, take, drop, getD, List·getD-eq-default}
+use lib.ListN.{length, take, drop, getD, length-take, List·getD-eq-default}
 use lib.Seq.{take-take, getD-take, getD-drop}
 use borrow.Author.Tests.{leb-true, eqb-true, eq-eqb, ne-eqb}
-use Rattle.obligations.specs.Limits.{activities}
+use Rattle.obligations.specs.Limits.{activities, masks}
 use Rattle.obligations.proofs.BoolLaws.{and-left, and-right}
 use Rattle.net.specs.Limits.{sets, places}
-use Rattle.net.specs.Lists.{ascendsAbove, zeros}
-use Rattle.net.specs.Sides.{Sides, block, sideIn}
+use Rattle.net.specs.Lists.{listed, ascendsAbove, zeros}
+use Rattle.net.specs.Sides.{masksOf, lengthsOf, Sides, block, sideIn, OnSide, Masks}
 use Rattle.net.specs.Orderly.{blockOk, sidesOk}
+use Rattle.net.specs.declared.Net.{Net}
+use Rattle.net.specs.declared.Side.{Side}
 use Rattle.net.proofs.BelowLaws.{below-at}
-use Rattle.net.proofs.ListLaws.{length-part, zeros-at}
+use Rattle.net.proofs.ListLaws.{length-part, zeros-at, listed-below}
 
 -- arrays as long as the record's, of which every side is as it has to be
 pub record OrderlySides (masks lengths : List ℕ) (empty : ℕ) : Type 0 where
@@ -40,6 +42,14 @@ block-side masks lengths a h = take-take (getD lengths a 0) sets (drop (sets * a
 
 pub side-at : (masks lengths : List ℕ) (a i : ℕ) → i < getD lengths a 0 → getD (sideIn masks lengths a) i 0 ≡ getD masks (sets * a + i) 0
 side-at masks lengths a i h = rw (getD-take (getD lengths a 0) (drop (sets * a) masks) i 0 h, getD-drop (sets * a) masks i 0)
+
+-- a set on a side is below a bound that every mask obeys
+side-below : (b : ℕ) (masks lengths : List ℕ) (a m : ℕ) → ((i : ℕ) → getD masks i 0 < b) → listed m (sideIn masks lengths a) ≡ true → m < b
+side-below b masks lengths a m h e =
+    listed-below b m (sideIn masks lengths a) (λ i l. rw (side-at masks lengths a i (omega (arith, length-take (getD lengths a 0) (drop (sets * a) masks)))) (h (sets * a + i))) e
+
+pub set-is-mask : (net : Net) → Masks net → (side : Side) (a m : ℕ) → OnSide net side a m → m < masks
+set-is-mask net small side a m e = side-below masks (masksOf net side) (lengthsOf net side) a m (small side) e
 
 -- a number above 31 has no sets
 pub side-beyond : (masks lengths : List ℕ) (a : ℕ) → length lengths ≡ activities → activities ≤ a → sideIn masks lengths a ≡ []

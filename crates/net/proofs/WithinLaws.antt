@@ -12,7 +12,7 @@ use lib.ListN.{length, getD, List·getD-eq-default}
 use lib.Seq.{ext-getD}
 use borrow.Author.Tests.{eqb-true, ne-eqb}
 use Rattle.obligations.specs.Limits.{activities}
-use Rattle.obligations.proofs.BoolLaws.{true-or-false}
+use Rattle.obligations.proofs.BoolLaws.{true-or-false, or-cases}
 use Rattle.net.specs.Limits.{sets, places}
 use Rattle.net.specs.Lists.{listed, insert}
 use Rattle.net.specs.Sides.{masksOf, lengthsOf, emptyAt, setsOn, OnSide}
@@ -22,7 +22,7 @@ use Rattle.net.specs.Contained.{Contained}
 use Rattle.net.specs.declared.Net.{Net}
 use Rattle.net.specs.declared.Side.{Side}
 use Rattle.net.specs.declared.Side.the-variants.{Input, Output}
-use Rattle.net.proofs.ListLaws.{or-cases, listed-one}
+use Rattle.net.proofs.ListLaws.{listed-one}
 use Rattle.net.proofs.InsertLaws.{length-insert, listed-insert, ascends-insert}
 use Rattle.net.proofs.SideLaws.{side-at, side-just-empty, plain-side-ok}
 use Rattle.net.proofs.OrderlyLaws.{orderly-sides, orderly-side, orderly-at-most, sets-length}

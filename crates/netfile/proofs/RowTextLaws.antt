@@ -10,7 +10,7 @@ use mathlib.Core.List.{List, [], _∷_, _++_, List·Memᴰ, List·Memᴰ·head, 
 use lib.Dec.{eqb}
 use borrow.Author.Tests.{eqb-true, eq-eqb}
 use Rattle.obligations.specs.Limits.{activities}
-use Rattle.obligations.proofs.BoolLaws.{false-not-true}
+use Rattle.obligations.proofs.BoolLaws.{false-not-true, or-right, or-cases}
 use Rattle.text.specs.Bytes.{count}
 use Rattle.text.specs.Lines.{cr, lines}
 use Rattle.text.specs.Fields.{comma, split, join}
@@ -27,7 +27,7 @@ use Rattle.net.specs.Sides.{setsOn, OnSide}
 use Rattle.net.specs.declared.Net.{Net}
 use Rattle.net.specs.declared.Side.{Side}
 use Rattle.net.specs.declared.Side.the-variants.{Input, Output}
-use Rattle.net.proofs.ListLaws.{or-cases, or-right, none-listed, listed-one, one-listed}
+use Rattle.net.proofs.ListLaws.{none-listed, listed-one, one-listed}
 use Rattle.netfile.specs.NetFile.{startWord, endWord, sideWord, endNumber, readEnd, readRow, endText, rowText, setLines, setsLines, sideLines, activityLines, headLines, netLines, netText}
 use Rattle.netfile.specs.declared.line.EndLine.the-variants.{Activity}
 use Rattle.netfile.specs.declared.line.RowLine.the-variants.{Set}
@@ -110,7 +110,7 @@ module _ (side : Side) (a : ℕ) where
       first r = record { set = r .set; some = r .some; there = rw (eq-eqb m (r .set) (sym (listed-one (r .set) m (r .there)))); is-text = r .is-text }
 
       later : SetRow side a ms line → SetRow side a (m ∷ ms) line
-      later r = record { set = r .set; some = r .some; there = or-right (eqb m (r .set)) (listed (r .set) ms) (r .there); is-text = r .is-text }
+      later r = record { set = r .set; some = r .some; there = or-right (eqb m (r .set)) (r .there); is-text = r .is-text }
 
   sets-row : (l : List ℕ) (m : ℕ) → listed m l ≡ true → 0 < m → List·Memᴰ (rowText side a m) (setsLines side a l)
   unfolding setsLines listed

@@ -1,20 +1,19 @@
 -- The statements of specs/Statements.antt. The round trip: every row that was written is of a set of the net, so each put
 -- into a net that the net contains is accepted and leaves such a net; after the last row it holds all sets of the net, and
 -- orderly nets that contain each other are equal. Assumes nothing.
-use Prim.Native.Nat.{ℕ, _*_, _+_, _<_}
+use Prim.Native.Nat.{ℕ, _+_, _<_}
 use native.Mathlib.Decide.{ℕ-discrete as decEq}
 use native.Mathlib.Omega.{arith}
 use mathlib.Core.Path.{_≡_, refl, sym, ap, _∙_}
 use mathlib.Core.Bool.{true}
 use mathlib.Core.Logic.{_⊎_, inl, inr, ⊎-elim}
 use mathlib.Core.List.{List, [], _∷_, List·Memᴰ, List·Memᴰ·head, List·Memᴰ·tail}
-use lib.ListN.{getD, drop, length-take}
 use borrow.Author.Tests.{ne-eqb}
 use Rattle.obligations.specs.Limits.{activities, masks}
 use Rattle.obligations.proofs.BoolLaws.{true-or-false, false-not-true}
 use Rattle.net.specs.Refusals.{Says, accepted}
 use Rattle.net.specs.Limits.{sets}
-use Rattle.net.specs.Sides.{masksOf, lengthsOf, emptyAt, setsOn, OnSide, Masks}
+use Rattle.net.specs.Sides.{masksOf, lengthsOf, emptyAt, OnSide}
 use Rattle.net.specs.Orderly.{endsOk, orderly}
 use Rattle.net.specs.Fresh.{freshNet}
 use Rattle.net.specs.Contained.{Contained}
@@ -22,11 +21,10 @@ use Rattle.net.specs.declared.Net.{Net}
 use Rattle.net.specs.declared.Side.{Side}
 use Rattle.net.specs.declared.Side.the-variants.{Input, Output}
 use Rattle.net.proofs.ListLaws.{one-listed}
-use Rattle.net.proofs.SideLaws.{side-at, side-just-empty}
+use Rattle.net.proofs.SideLaws.{side-just-empty, set-is-mask}
 use Rattle.net.proofs.OrderlyLaws.{ends-facts, orderly-ends, orderly-sides, orderly-side}
 use Rattle.net.proofs.FreshLaws.{fresh-start, fresh-end, fresh-on-side, fresh-orderly}
 use Rattle.net.proofs.PutLaws.{put-says-side}
-use Rattle.net.proofs.AscendingLaws.{listed-below}
 use Rattle.net.proofs.WithinLaws.{contained-same, put-accepts-within, put-keeps-within}
 use Rattle.netfile.specs.NetFile.{readRow, rowSays, rowGives, Reading, readAs, readRows, fromEnd, fromStart, fromHeader, readNet, activityLines, headLines, netLines, netText}
 use Rattle.netfile.specs.Statements.{RoundTrip, RefusedFresh, ReadOrderly, ReadAgain, RowSaysSide, HasRow, ReadSaid}
@@ -130,14 +128,8 @@ sets-back : (net : Net) → orderly net ≡ true → MaskSets net → readNet (n
 unfolding after
 sets-back net o w = text-after net o w ∙ reading-ext (after net o w) (accepted 0) net (rows-said 4 (fresh net o w) (activityLines net activities 0) (accepted-after net o w .0)) (after-net net o w)
 
--- the words of a record's arrays are below 2 ^ 32, and so are its sets
-word-sets : (net : Net) → Masks net → MaskSets net
-word-sets net h side a m on =
-    listed-below masks m (setsOn net side a)
-    (λ i l. rw (side-at (masksOf net side) (lengthsOf net side) a i (omega (arith, length-take (getD (lengthsOf net side) a 0) (drop (sets * a) (masksOf net side))))) (h side (sets * a + i))) on
-
 pub round-trip : RoundTrip
-round-trip net o w = sets-back net o (word-sets net w)
+round-trip net o w = sets-back net o (set-is-mask net w)
 
 -- ---- whatever is read
 

@@ -39,3 +39,7 @@ or-right false e = e
 pub or-cases : (a b : Bool) → a || b ≡ true → (a ≡ true) ⊎ (b ≡ true)
 or-cases true b e = inl refl
 or-cases false b e = inr e
+
+pub or-neither : (a b : Bool) → a || b ≡ false → (a ≡ false) × (b ≡ false)
+or-neither true b e = absurd (false-not-true e refl)
+or-neither false b e = (refl, e)

@@ -21,7 +21,7 @@ total-lower [] i h c = absurd (omega arith)
 total-lower (x ∷ xs) zero h c = omega arith
 total-lower (x ∷ xs) (suc i) h c = omega (arith, total-lower xs i (omega arith) c)
 
-total-raise : (d : List ℕ) (i : ℕ) → i < length d → total (set d i (getD d i 0 + 1)) ≡ total d + 1
+pub total-raise : (d : List ℕ) (i : ℕ) → i < length d → total (set d i (getD d i 0 + 1)) ≡ total d + 1
 unfolding total
 total-raise [] i h = absurd (omega arith)
 total-raise (x ∷ xs) zero h = omega arith

@@ -1,27 +1,25 @@
 -- What the check says of an orderly net: the set of lost activities has exactly those of the net on no walk, and its lowest
 -- member is the lowest of them. Assumes nothing.
-use Prim.Native.Nat.{ℕ, suc, _+_, _*_, _^_, _<_}
-use mathlib.Core.Path.{_≡_, refl, sym, ap, subst, _∙_}
+use Prim.Native.Nat.{ℕ, _^_, _<_}
+use mathlib.Core.Path.{_≡_, refl, sym, ap, _∙_}
 use mathlib.Core.Logic.{⊎-elim}
 use mathlib.Core.Bool.{Bool, true, false, not, _&&_}
-use mathlib.Core.List.{List, [], _∷_}
+use mathlib.Core.List.{List, []}
 use native.Mathlib.Nat.{eq-or-lt-of-le}
 use native.Mathlib.Omega.{arith}
-use borrow.Author.Tests.{eq-eqb, ne-eqb, eqb-true}
+use borrow.Author.Tests.{eq-eqb, ne-eqb}
 use lib.Count.{trailingZeros}
-use lib.Dec.{eqb}
-use lib.ListN.{length, getD, take, drop, length-take}
-use lib.Seq.{getD-take, getD-drop}
+use lib.ListN.{getD}
 use Rattle.obligations.specs.Sets.{member}
-use Rattle.obligations.proofs.BoolLaws.{true-or-false, false-not-true, and-left, and-right, and-both, or-cases}
+use Rattle.obligations.proofs.BoolLaws.{true-or-false, false-not-true, and-left, and-right, and-both}
 use Rattle.obligations.proofs.SetLaws.{lt-or-le, member-none, member-activity, no-members}
 use Rattle.obligations.proofs.MemberLaws.{members-walk}
 use Rattle.obligations.proofs.LowestLaws.{lowest-activity, lowest-member, none-below}
-use Rattle.net.specs.Lists.{listed}
 use Rattle.net.specs.Refusals.{accepted, refused, on-no-walk}
-use Rattle.net.specs.Sides.{masksOf, lengthsOf, setsOn, Masks}
+use Rattle.net.specs.Sides.{Masks}
 use Rattle.net.specs.Orderly.{orderly}
 use Rattle.net.specs.declared.Net.{Net}
+use Rattle.net.proofs.SideLaws.{set-is-mask}
 use Rattle.net.proofs.OrderlyLaws.{orderly-facts, on-side-activity}
 use Rattle.walks.specs.Arcs.{arcs}
 use Rattle.walks.specs.Walks.{InNet, the-start, the-end, with-a-set, in-a-set, OnWalk, Passes}
@@ -40,17 +38,6 @@ lowest-is m some small = ap (λ (l : List ℕ). getD l 0 0) (members-walk m some
 
 -- ---- what is named is an activity
 
-listed-lt : (l : List ℕ) (m n : ℕ) → ((i : ℕ) → i < length l → getD l i 0 < n) → listed m l ≡ true → m < n
-unfolding listed
-listed-lt [] m n s h = absurd (false-not-true refl h)
-listed-lt (x ∷ xs) m n s h = ⊎-elim (λ q. subst (λ (y : ℕ). y < n) (eqb-true x m q) (s 0 (omega arith))) (λ t. listed-lt xs m n (λ i l. s (suc i) (omega arith)) t) (or-cases (eqb x m) (listed m xs) h)
-
--- what holds of each place of a list holds of each of a part
-part-lt : (l : List ℕ) (a k n : ℕ) → ((i : ℕ) → getD l i 0 < n) → (i : ℕ) → i < length (take k (drop a l)) → getD (take k (drop a l)) i 0 < n
-part-lt l a k n s i h =
-    ⊎-elim (λ lt. rw (getD-take k (drop a l) i 0 lt, getD-drop a l i 0) (s (a + i)))
-    (λ le. absurd (omega (arith, length-take k (drop a l)))) (lt-or-le i k)
-
 module _ (net : Net) (o : orderly net ≡ true) (small : Masks net) where
   -- an activity of the net is below 32: here it matters that masks have 32 bits
   pub in-net-activity : (a : ℕ) → InNet net a → a < 32
@@ -59,7 +46,7 @@ module _ (net : Net) (o : orderly net ≡ true) (small : Masks net) where
   in-net-activity a (with-a-set side m h) = on-side-activity net o side a m h
   in-net-activity a (in-a-set side b n) =
       member-activity (n .set) a
-      (listed-lt (setsOn net side b) (n .set) (2 ^ 32) (part-lt (masksOf net side) (16 * b) (getD (lengthsOf net side) b 0) (2 ^ 32) (small side)) (n .on-side)) (n .in-set)
+      (set-is-mask net small side b (n .set) (n .on-side)) (n .in-set)
 
 -- ---- the lost activities
 
