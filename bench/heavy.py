@@ -62,7 +62,7 @@ def log_lines(rng, count):
 
 def write(path, lines):
     content = "".join(line + "\r\n" for line in lines).encode("ascii")
-    if len(content) >= BYTE_LIMIT:
+    if len(content) > BYTE_LIMIT:
         raise SystemExit(f"{path.name} would have {len(content)} bytes, too many for the program")
     path.write_bytes(content)
 

@@ -13,3 +13,4 @@ pub mod FreshLaws
 pub mod ContainedLaws
 pub mod AscendingLaws
 pub mod WithinLaws
+pub mod Theorems

@@ -8,3 +8,4 @@ pub mod Fresh
 pub mod Put
 pub mod Contained
 pub mod Valid
+pub mod Statements

@@ -4,6 +4,7 @@
 // These functions are called by the layers above and by nobody else. Their `requires` are those that a caller has at
 // hand: the activity is one, and no count is above 254, since a count is at most the number of positions so far.
 
+use crate::PAIRS;
 ghost use mathlib.Core.Path.{_≡_};
 ghost use mathlib.Core.Bool.{true};
 ghost use Prim.Native.Nat.{_<_, _+_, _*_};
@@ -89,7 +90,7 @@ pub fn is_zero(due: &[u8; 1024]) -> bool
 {
     let mut seen: u8 = 0;
     let mut i = 0;
-    while i < 1024 {
+    while i < PAIRS {
         seen |= due[i];
         i += 1;
     }

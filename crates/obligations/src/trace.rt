@@ -1,6 +1,7 @@
 // Tests on the activities of a trace, or of a sequence: n numbers in a list of words, `stride` words apart, which is 1 in
 // a trace and 3 in a sequence.
 
+use crate::ACTIVITIES;
 ghost use mathlib.Core.Path.{_≡_};
 ghost use Prim.Native.Nat.{_*_, _^_, _<_, _≤_};
 ghost use lib.ListN.{length, getD};
@@ -14,7 +15,7 @@ pub fn first_no_activity(words: &[u32], stride: usize, n: usize) -> u32
     let mut i: usize = 0;
     let mut at: usize = 0;
     while i < n {
-        if 31 < words[at] {
+        if ACTIVITIES <= words[at] {
             return (i + 1) as u32;
         }
         i += 1;

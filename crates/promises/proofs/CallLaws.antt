@@ -14,16 +14,13 @@ use Rattle.net.specs.Orderly.{orderly}
 use Rattle.net.specs.Valid.{Valid}
 use Rattle.net.specs.declared.Net.{Net}
 use Rattle.net.specs.declared.Side.the-variants.{Input, Output}
-use Rattle.net.proofs.OrderlyLaws.{orderly-facts}
-use Rattle.sequences.specs.Gain.{gained}
+use Rattle.sequences.specs.Gain.{gained, Gains}
 use Rattle.sequences.specs.Learn.{learnSays, learnGives}
 use Rattle.sequences.specs.Follow.{followedFrom, followed, followGives}
 use Rattle.sequences.specs.Statements.{Words}
-use Rattle.sequences.proofs.GrowthLaws.{gained-orderly, gained-contained}
 use Rattle.sequences.proofs.FollowLearnLaws.{follow-is-learn}
-use Rattle.sequences.proofs.Theorems.{accepted-parts, accepted-gives, learn-holds, learn-valid}
+use Rattle.sequences.proofs.Theorems.{accepted-parts, learn-holds, learn-valid}
 use Rattle.promises.specs.Calls.{Call, learn, follow, wordsOf, sequenceOf, says, gives}
-use Rattle.promises.specs.Promise.{Gains}
 use Rattle.promises.proofs.ValidWalkLaws.{SetsAreMasks}
 
 -- ---- the words that a call learns
@@ -71,18 +68,6 @@ call-masks call w = subst SetsAreMasks (bindings-learned call) (words-masks (lea
 
 -- ---- an accepted call, and a refused one
 
-learn-gains : (net : Net) (ws : List ℕ) → learnSays net ws .ok ≡ true → Gains net (bindings ws) (learnGives net ws)
-learn-gains net ws e =
-    let p = accepted-parts net ws e in
-    let g = accepted-gives net ws e in
-    let c = gained-contained net (bindings ws) (p .net-orderly) (p .activities-only) in
-    record {
-      same-start = ap (λ (n : Net). n .start) g ∙ sym (c .same-start);
-      same-end = ap (λ (n : Net). n .end) g ∙ sym (c .same-end);
-      is-orderly = orderly-facts (learnGives net ws) (ap orderly g ∙ gained-orderly net (bindings ws) (p .net-orderly) (p .activities-only));
-      on-sides = learn-holds net ws e;
-    }
-
 module _ (net : Net) (call : Call) where
   ok-learned : says net call .ok ≡ true → learnSays net (learnedWords call) .ok ≡ true
   ok-learned e = ap (λ (a : Says). a .ok) (sym (says-learned net call)) ∙ e
@@ -90,7 +75,7 @@ module _ (net : Net) (call : Call) where
   pub call-gains : says net call .ok ≡ true → Gains net (sequenceOf call) (gives net call)
   call-gains e =
       subst (Gains net (sequenceOf call)) (sym (gives-learned net call))
-      (subst (λ (s : List Binding). Gains net s (learnGives net (learnedWords call))) (bindings-learned call) (learn-gains net (learnedWords call) (ok-learned e)))
+      (subst (λ (s : List Binding). Gains net s (learnGives net (learnedWords call))) (bindings-learned call) (learn-holds net (learnedWords call) (ok-learned e)))
 
   pub call-valid : Words (wordsOf call) → says net call .ok ≡ true → Valid (gives net call) (sequenceOf call)
   call-valid w e =

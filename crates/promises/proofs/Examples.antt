@@ -73,11 +73,12 @@ F-grown = refl
 
 -- ---- passing nets that contain the grown net and that don't
 
+-- accepted, refused by 10 at position 2, refused by 7, and accepted with nothing new
 calls : List Call
-calls = learn fig4 ∷ learn fig4 ∷ []
+calls = learn fig4 ∷ learn (0 ∷ 0 ∷ 2 ∷ 1 ∷ 3 ∷ 10 ∷ 4 ∷ 2 ∷ 0 ∷ []) ∷ follow (0 ∷ 5 ∷ []) ∷ learn fig4 ∷ []
 
 more : List Call
-more = learn fig4 ∷ learn fig4 ∷ follow (0 ∷ 4 ∷ []) ∷ []
+more = learn fig4 ∷ follow (0 ∷ 4 ∷ []) ∷ []
 
 others : List Call
 others = follow (0 ∷ 4 ∷ []) ∷ []
@@ -86,8 +87,9 @@ nets :
     let net = grown (freshNet 0 4) calls in
     let larger = grown (freshNet 0 4) more in
     let other = grown (freshNet 0 4) others in
-    (map checkSays (net ∷ larger ∷ other ∷ []) ≡ accepted 7 ∷ accepted 8 ∷ accepted 1 ∷ [])
+    (answers (freshNet 0 4) calls ≡ accepted 12 ∷ refused 10 2 ∷ refused 7 0 ∷ accepted 0 ∷ [])
+    × (map checkSays (net ∷ larger ∷ other ∷ []) ≡ accepted 7 ∷ accepted 8 ∷ accepted 1 ∷ [])
     × (containedSays net larger ≡ accepted 1)
     × (containedSays net other ≡ accepted 0)
-unfolding learnSays learnGives withinLimits wordsFit bindings firstNoActivity firstFailing firstFrom learnPositions shaped endsAgree firstWronglyEmpty emptyAgree firstImpossible possibleAt possible run after taken added inputs outputs places members membersFrom keep allDue lowered raised allZero fits takesBinding takesPut withBinding withPut gained sideSays misplaced listed insert grows putMasks putLengths total freshNet orderly sized endsOk sidesOk blockOk allBelow ascendsAbove zeros followSays followGives traceWithinLimits traceFits followPositions followedFrom single checkSays lostSays lowest lost outside successors predecessors inNet onSides reach rounds grownBy unionFrom rows rowsFrom arcs arc names named those thoseBelow withIf sumBelow number anyBelow union member bit containedSays contained sidesWithin allListed calls more others fig4 grown
-nets = (refl, refl, refl)
+unfolding learnSays learnGives withinLimits wordsFit bindings firstNoActivity firstFailing firstFrom learnPositions shaped endsAgree firstWronglyEmpty emptyAgree firstImpossible possibleAt possible run after taken added inputs outputs places members membersFrom keep allDue lowered raised allZero fits takesBinding takesPut withBinding withPut gained sideSays misplaced listed insert grows putMasks putLengths total freshNet orderly sized endsOk sidesOk blockOk allBelow ascendsAbove zeros followSays followGives traceWithinLimits traceFits followPositions followedFrom single checkSays lostSays lowest lost outside successors predecessors inNet onSides reach rounds grownBy unionFrom rows rowsFrom arcs arc names named those thoseBelow withIf sumBelow number anyBelow union member bit containedSays contained sidesWithin allListed calls more others fig4 grown answers
+nets = (refl, refl, refl, refl)

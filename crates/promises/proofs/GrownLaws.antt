@@ -13,9 +13,8 @@ use Rattle.net.specs.Valid.{Valid}
 use Rattle.net.specs.declared.Net.{Net}
 use Rattle.net.specs.declared.Side.{Side}
 use Rattle.net.specs.declared.Side.the-variants.{Input, Output}
-use Rattle.sequences.specs.Gain.{SetOf}
+use Rattle.sequences.specs.Gain.{SetOf, Gains}
 use Rattle.promises.specs.Calls.{Call, sequenceOf, says, gives, grown, learned, AllWords}
-use Rattle.promises.specs.Promise.{Gains}
 use Rattle.promises.proofs.ValidWalkLaws.{SetsAreMasks}
 use Rattle.promises.proofs.CallLaws.{call-gains, call-valid, call-stays, call-masks}
 

@@ -3,7 +3,7 @@
 use Prim.Native.Nat.{ℕ, _-_}
 use mathlib.Core.Path.{_≡_, refl, sym, ap, subst, _∙_}
 use mathlib.Core.Bool.{true, false}
-use mathlib.Core.List.{List, List·Memᴰ, List·Memᴰ·head, Memᴰ·append-right}
+use mathlib.Core.List.{List, [], _∷_, List·Memᴰ, List·Memᴰ·head, List·Memᴰ·tail, Memᴰ·append-right}
 use mathlib.Core.Logic.{_↔_, ⊎-elim}
 use Rattle.obligations.specs.Sequence.{Binding}
 use Rattle.obligations.proofs.BoolLaws.{true-or-false, false-not-true}
@@ -17,17 +17,18 @@ use Rattle.net.specs.declared.Net.{Net}
 use Rattle.net.proofs.OrderlyLaws.{orderly-facts, facts-orderly}
 use Rattle.net.proofs.FreshLaws.{fresh-orderly}
 use Rattle.walks.specs.Check.{checkSays}
+use Rattle.walks.proofs.CheckLaws.{said-orderly}
 use Rattle.sequences.specs.Learn.{newSets}
 use Rattle.sequences.specs.Statements.{Words}
-use Rattle.promises.specs.Calls.{Call, wordsOf, sequenceOf, gives, grown, learned, AllWords}
+use Rattle.promises.specs.Calls.{Call, wordsOf, sequenceOf, gives, grown, answers, learned, AllWords}
 use Rattle.promises.specs.Refusals.{NoneHolds}
-use Rattle.promises.specs.Promise.{Called, Promise, Promised}
+use Rattle.promises.specs.Promise.{Called, Runs, none-left, accepts, refuses, Promise, Promised}
 use Rattle.promises.proofs.CallLaws.{call-gains, call-gained, call-stays}
 use Rattle.promises.proofs.RefusalLaws.{answered-one, answered-accepted, answered-refused, none-ok, listed-not-ok}
 use Rattle.promises.proofs.AnswerLaws.{call-answered}
 use Rattle.promises.proofs.GrownLaws.{Grown, grown-list, grown-valid}
 use Rattle.promises.proofs.PassLaws.{passes-said, grown-net-passes, grown-masks}
-use Rattle.promises.proofs.WithinLaws.{said-orderly, valid-grows, said-contained, contained-said, all-valid-contained}
+use Rattle.promises.proofs.WithinLaws.{valid-grows, said-contained, contained-said, all-valid-contained}
 use Rattle.promises.proofs.ReplayLaws.{found-not-none, none-exactly}
 
 -- ---- one call
@@ -50,6 +51,23 @@ called net call w =
     same-count n = ap (λ (x : Net). netSize x - netSize net) (call-gained net call (none-ok net call (call-answered net call w) n))
 
 -- ---- a list of calls
+
+-- one call, and the run of the others
+runs-more : (net : Net) (call : Call) (calls : List Call) → Words (wordsOf call)
+    → ((next : Net) → Runs next calls (answers next calls) (learned next calls) (grown next calls))
+    → Runs net (call ∷ calls) (answers net (call ∷ calls)) (learned net (call ∷ calls)) (grown net (call ∷ calls))
+unfolding answers learned grown
+runs-more net call calls w rest =
+    let c = called net call w in
+    ⊎-elim
+    (λ n. let e = c .accepted-exactly (netSize (gives net call) - netSize net) .1 (n, refl) in rw e (accepts n (c .gains n) refl (rest (gives net call))))
+    (λ l. let e = c .refused-exactly (l .0) (l .1) .1 (l .2) in rw (e, c .stays (l .0) (l .1) (l .2)) (refuses (l .2) (rest net))) (c .one-or-none)
+
+runs-list : (net : Net) (calls : List Call) → AllWords calls → Runs net calls (answers net calls) (learned net calls) (grown net calls)
+unfolding answers learned grown
+runs-list net [] w = none-left
+runs-list net (call ∷ calls) w =
+    runs-more net call calls (w call (List·Memᴰ·head refl)) (λ next. runs-list next calls (λ d m. w d (List·Memᴰ·tail m)))
 
 -- the net that fresh returns where it accepts
 fresh-made : (start end : ℕ) → freshSays start end .ok ≡ true → (endsOk start end ≡ true) × (freshGives start end ≡ freshNet start end)
@@ -80,6 +98,7 @@ module _ (start end : ℕ) (h : endsOk start end ≡ true) (calls : List Call) (
       let net = grown (freshNet start end) calls in
       let ss = learned (freshNet start end) calls in
       record {
+        runs = runs-list (freshNet start end) calls w;
         each-call = λ before after call e. called (grown (freshNet start end) before) call (w call (subst (List·Memᴰ call) (sym e) (Memᴰ·append-right before (List·Memᴰ·head refl))));
         grown-passes = λ s m. let p = grown-net-passes start end h net ss grew s m in (p, passes-said net p);
         contained-exactly = contained-valid;

@@ -8,7 +8,6 @@ use mathlib.Core.Logic.{⊎-elim}
 use native.Mathlib.Omega.{arith}
 use Rattle.obligations.specs.Limits.{activities}
 use Rattle.obligations.specs.Sequence.{Binding, WellFormed, at}
-use Rattle.obligations.proofs.BoolLaws.{true-or-false, false-not-true}
 use Rattle.net.specs.Refusals.{Says, accepted, refused}
 use Rattle.net.specs.Sides.{emptyAt, OnSide}
 use Rattle.net.specs.Orderly.{endsOk, orderly, Orderly}
@@ -21,15 +20,10 @@ use Rattle.net.specs.declared.Side.the-variants.{Input, Output}
 use Rattle.net.proofs.ListLaws.{one-listed}
 use Rattle.net.proofs.FreshLaws.{fresh-on-side}
 use Rattle.net.proofs.ContainedLaws.{contained-facts, facts-contained}
-use Rattle.walks.specs.Check.{checkSays}
 use Rattle.sequences.specs.Gain.{SetOf, setFor}
 use Rattle.promises.proofs.GrownLaws.{Grown}
 
 -- what is said to pass is orderly
-pub said-orderly : (net : Net) → checkSays net .ok ≡ true → orderly net ≡ true
-unfolding checkSays
-said-orderly net e = ⊎-elim (λ o. o) (λ o. absurd (false-not-true (refl {a = false}) (rw o at e))) (true-or-false (orderly net))
-
 -- the sets of a valid sequence are on their sides
 set-on-side : (net : Net) (side : Side) (a m : ℕ) (s : List Binding) → Valid net s → SetOf side s a m → OnSide net side a m
 set-on-side net side a m s v f =

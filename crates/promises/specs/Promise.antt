@@ -2,54 +2,61 @@
 use Prim.Native.Nat.{ℕ, _-_}
 use mathlib.Core.Path.{_≡_}
 use mathlib.Core.Bool.{true}
-use mathlib.Core.List.{List, _∷_, _++_, List·Memᴰ}
+use mathlib.Core.List.{List, [], _∷_, _++_, List·Memᴰ}
 use mathlib.Core.Logic.{_↔_, _⊎_}
 use Rattle.obligations.specs.Sequence.{Binding}
-use Rattle.net.specs.Refusals.{accepted, refused}
-use Rattle.net.specs.Sides.{OnSide, netSize, Masks}
-use Rattle.net.specs.Orderly.{Orderly}
+use Rattle.net.specs.Refusals.{Says}
+use Rattle.net.specs.Sides.{netSize, Masks}
 use Rattle.net.specs.Fresh.{freshSays, freshGives}
-use Rattle.net.specs.Contained.{containedSays}
+use Rattle.net.specs.Contained.{containedSaid, containedSays}
 use Rattle.net.specs.Valid.{Valid}
 use Rattle.net.specs.declared.Net.{Net}
-use Rattle.net.specs.declared.Side.{Side}
+use Rattle.net.specs.declared.ContainedAnswer.the-variants.{Yes}
 use Rattle.walks.specs.Arcs.{arcs}
 use Rattle.walks.specs.Walks.{Passes}
-use Rattle.walks.specs.Check.{checkSays}
-use Rattle.sequences.specs.Gain.{SetOf}
+use Rattle.walks.specs.Check.{checkSaid, checkSays}
+use Rattle.walks.specs.declared.CheckAnswer.the-variants.{Passed}
+use Rattle.sequences.specs.Gain.{Gains}
+use Rattle.sequences.specs.Learn.{learnSaid}
+use Rattle.sequences.specs.declared.LearnAnswer.the-variants.{Learned, Refused}
 use Rattle.search.specs.Statements.{NoChoice}
-use Rattle.promises.specs.Calls.{Call, sequenceOf, says, gives, grown, learned, AllWords}
+use Rattle.promises.specs.Calls.{Call, sequenceOf, says, gives, grown, answers, learned, AllWords}
 use Rattle.promises.specs.Refusals.{NoneHolds, Listed}
 use Rattle.promises.specs.Replays.{SaysFound, SaysNone, NotRefused, EndsWithin}
-
--- the second net is the first with exactly the sequence's sets more
-pub record Gains (net : Net) (s : List Binding) (after : Net) : Type 0 where
-  pub same-start : after .start ≡ net .start
-  pub same-end : after .end ≡ net .end
-  pub is-orderly : Orderly after
-  pub on-sides : (side : Side) (a m : ℕ) → OnSide after side a m ↔ (OnSide net side a m ⊎ SetOf side s a m)
 
 -- one call, given the net so far: no refusal holds of it, or one is listed for it. It is accepted exactly in the first case, with
 -- the growth of the net's own lists as the number of new sets, and returns the net with exactly its sequence's sets more; it is
 -- refused exactly in the second, with the number and place listed, and returns the net so far
 pub record Called (net : Net) (call : Call) : Type 0 where
   pub one-or-none : NoneHolds net call ⊎ ((number place : ℕ) × Listed net call number place)
-  pub accepted-exactly : (new : ℕ) → (says net call ≡ accepted new) ↔ (NoneHolds net call × (new ≡ netSize (gives net call) - netSize net))
-  pub refused-exactly : (number place : ℕ) → (says net call ≡ refused number place) ↔ Listed net call number place
+  pub accepted-exactly : (new : ℕ) → (says net call ≡ learnSaid (Learned new)) ↔ (NoneHolds net call × (new ≡ netSize (gives net call) - netSize net))
+  pub refused-exactly : (number place : ℕ) → (says net call ≡ learnSaid (Refused number place)) ↔ Listed net call number place
   pub gains : NoneHolds net call → Gains net (sequenceOf call) (gives net call)
   pub stays : (number place : ℕ) → Listed net call number place → gives net call ≡ net
 
+-- a list of calls run from a net as the papers list it: what each says, the sequences of those accepted, and the last net
+pub data Runs : Net → List Call → List Says → List (List Binding) → Net → Type 0 where
+  none-left : {net : Net} → Runs net [] [] [] net
+  accepts : {net after last : Net} {call : Call} {calls : List Call} {new : ℕ} {said : List Says} {ss : List (List Binding)}
+      → NoneHolds net call → Gains net (sequenceOf call) after → new ≡ netSize after - netSize net
+      → Runs after calls said ss last → Runs net (call ∷ calls) (learnSaid (Learned new) ∷ said) (sequenceOf call ∷ ss) last
+  refuses : {net last : Net} {call : Call} {calls : List Call} {number place : ℕ} {said : List Says} {ss : List (List Binding)}
+      → Listed net call number place
+      → Runs net calls said ss last → Runs net (call ∷ calls) (learnSaid (Refused number place) ∷ said) ss last
+
 -- what is promised of a list of calls, the first of which is given the net `first`
 pub record Promise (first : Net) (calls : List Call) : Type 0 where
-  -- 1. each call is accepted or refused exactly as the papers list it, given the net so far, which then gains or stays
+  -- 1. the whole list runs as the papers list it, and each of its calls is accepted or refused exactly so, given the net so far,
+  -- which then gains or stays
+  pub runs : Runs first calls (answers first calls) (learned first calls) (grown first calls)
   pub each-call : (before after : List Call) (call : Call) → calls ≡ before ++ (call ∷ after) → Called (grown first before) call
   -- 2. if any was accepted, the grown net passes the net check
-  pub grown-passes : (s : List Binding) → List·Memᴰ s (learned first calls) → Passes (grown first calls) × (checkSays (grown first calls) ≡ accepted (arcs (grown first calls)))
+  pub grown-passes : (s : List Binding) → List·Memᴰ s (learned first calls) → Passes (grown first calls) × (checkSays (grown first calls) ≡ checkSaid (Passed (arcs (grown first calls))))
   -- 3. in a net that passes with the same start and end, the grown net is contained exactly when every sequence accepted is valid
   pub contained-exactly : (other : Net) → checkSays other .ok ≡ true → other .start ≡ first .start → other .end ≡ first .end
-      → (containedSays (grown first calls) other ≡ accepted 1) ↔ ((s : List Binding) → List·Memᴰ s (learned first calls) → Valid other s)
+      → (containedSays (grown first calls) other ≡ containedSaid Yes) ↔ ((s : List Binding) → List·Memᴰ s (learned first calls) → Valid other s)
   -- 4. where it is contained, no trace found in it is none there, whatever the two budgets and buffers are
-  pub found-never-none : (other : Net) → containedSays (grown first calls) other ≡ accepted 1
+  pub found-never-none : (other : Net) → containedSays (grown first calls) other ≡ containedSaid Yes
       → (trace : List ℕ) (budget budget′ : ℕ) (out out′ : List ℕ) → SaysFound (grown first calls) trace budget out → SaysNone other trace budget′ out′ → ⊥
   -- 5. in every net, whatever the trace, the budget and the buffer are, a replay that isn't refused says none exactly when its
   -- search ends within the budget and no choice of the net's bindings makes the trace valid. (In a net that doesn't pass it is

@@ -1,5 +1,6 @@
 -- The refusals of learn and follow as the papers list them (01, "Refused, lowest number first"): each sentence as a proposition
--- of the net and the call, with the place that is returned. Nothing here runs a test or a chain of tests.
+-- of the net and the call, with the place that is returned. Nothing here is a chain of tests: only "would exceed 16 sets" counts
+-- the sets of a side together with the sequence's.
 use Prim.Native.Nat.{ℕ, suc, _+_, _%_, _≤_, _<_}
 use mathlib.Core.Path.{_≡_}
 use mathlib.Core.List.{List}

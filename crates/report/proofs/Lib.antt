@@ -4,3 +4,4 @@ pub mod TextLaws
 pub mod StandingLaws
 pub mod RowLaws
 pub mod ReportLaws
+pub mod Theorems

@@ -32,9 +32,6 @@ pub const FILE_BYTES: usize = 65536;
 // The budget of a row's replay.
 pub const ROW_BUDGET: u64 = 1000000;
 
-// A buffer of this many bytes has room for every report.
-pub const REPORT_ROOM: usize = 32768;
-
 // Writes the report to the front of the buffer, and returns its length.
 pub fn report(net_text: &[u8], log_text: &[u8], out: &mut [u8]) -> usize
     requires { ⌜ reportRoom ≤ length (now out) ⌝ }

@@ -37,6 +37,7 @@ pub fn write_row(out: &mut [u8], at: usize, row: u32, sessions: u32, answer: Rep
         ReplayAnswer::Found { trials } => write_last(out, p, b",found,", trials),
         ReplayAnswer::None { trials } => write_last(out, p, b",none,", trials),
         ReplayAnswer::Spent { trials } => write_last(out, p, b",spent,", trials),
+        // A net that was checked refuses no row of a log that was read.
         ReplayAnswer::Refused {
             number: _,
             place: _,

@@ -170,6 +170,7 @@ fn write_words(out: &mut [u8], at: usize, words: &[u32], count: usize, changed: 
     requires { ⌜ at ≤ length (now out) ⌝ }
     ensures { λ r. ⌜ r ≤ length (now (out .exit)) ⌝ }
 {
+    // No answer counts more words than the buffer has; one that did would not be written as if it were right.
     if words.len() < count {
         return end_line(out, at, true);
     }

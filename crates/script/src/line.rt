@@ -14,8 +14,8 @@ use text::bytes::same_bytes;
 ghost use Prim.Native.Nat.{_≤_, _<_};
 ghost use lib.ListN.{length};
 
-// Runs the line script[i..e]. One that isn't ended by LF is no command, nor is one with a field that is no number: there
-// are as many numbers as spaces.
+// Runs the line script[i..e]. But for a comment, one that isn't ended by LF is no command, nor is one with a field that is
+// no number: there are as many numbers as spaces.
 pub fn run_line(
     script: &[u8],
     i: usize,
@@ -26,15 +26,15 @@ pub fn run_line(
     words: &mut [u32],
     bytes: &mut [u8],
 ) -> Answer
-    requires { ⌜ (i ≤ e) × (e ≤ length (now script)) ⌝ }
+    requires { ⌜ (i ≤ e) × (e ≤ length (now script)) × (i < length (now script)) ⌝ }
     requires { ⌜ now «text_len» ≤ length (now text) ⌝ }
     ensures { λ _. ⌜ now («text_len» .exit) ≤ length (now (text .exit)) ⌝ }
 {
-    if e == script.len() {
-        return Answer::Bad;
-    }
     if script[i] == b'#' {
         return Answer::Silent;
+    }
+    if e == script.len() {
+        return Answer::Bad;
     }
     let mut numbers = [0u64; 1024];
     let w = find_byte(script, i, e, b' ');
@@ -100,7 +100,7 @@ fn run_command(
     run_on_record(script, i, w, records, r, &args[..n], words)
 }
 
-// The commands on registers alone: those that are no calls, and those that call on a net.
+// The commands on registers that are no calls.
 fn run_on_record(
     script: &[u8],
     i: usize,
@@ -127,6 +127,7 @@ fn run_on_record(
     run_on_net(script, i, w, records, r, args)
 }
 
+// The commands that call on a net.
 fn run_on_net(
     script: &[u8],
     i: usize,
@@ -152,6 +153,7 @@ fn run_on_net(
     run_on_sequence(script, i, w, records, r, args)
 }
 
+// The commands that call on a sequence or a trace, but for replay.
 fn run_on_sequence(
     script: &[u8],
     i: usize,

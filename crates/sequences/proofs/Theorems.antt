@@ -1,6 +1,6 @@
 -- The statements of specs/Statements.antt. Assumes nothing.
 use Prim.Native.Nat.{ℕ}
-use mathlib.Core.Path.{_≡_, refl, subst}
+use mathlib.Core.Path.{_≡_, refl, sym, ap, subst, _∙_}
 use mathlib.Core.Bool.{true}
 use mathlib.Core.List.{List}
 use mathlib.Core.Logic.{inr}
@@ -12,13 +12,14 @@ use Rattle.obligations.proofs.TraceLaws.{activities-below}
 use Rattle.net.specs.Orderly.{orderly}
 use Rattle.net.specs.declared.Net.{Net}
 use Rattle.net.specs.declared.Side.the-variants.{Input, Output}
+use Rattle.net.proofs.OrderlyLaws.{orderly-facts}
 use Rattle.sequences.specs.Limits.{wordsFit, withinLimits}
 use Rattle.sequences.specs.Gain.{gained, fits}
 use Rattle.sequences.specs.Learn.{firstWronglyEmpty, learnPositions, learnSays, learnGives}
 use Rattle.sequences.specs.Statements.{LearnAccepts, LearnHolds, LearnValid, FollowLearns, JudgeAccepts}
 use Rattle.sequences.proofs.AcceptLaws.{unless-passes, none-passes, accepted-learnable, learnable-accepted}
 use Rattle.sequences.proofs.ValidLaws.{accepted-acceptable, acceptable-accepted}
-use Rattle.sequences.proofs.GrowthLaws.{Activities, gained-contained, gained-on-side}
+use Rattle.sequences.proofs.GrowthLaws.{Activities, gained-orderly, gained-contained, gained-on-side}
 use Rattle.sequences.proofs.FollowLearnLaws.{follow-is-learn}
 
 pub learn-accepts : LearnAccepts
@@ -49,9 +50,16 @@ unfolding learnGives
 accepted-gives net ws e = rw e
 
 pub learn-holds : LearnHolds
-learn-holds net ws e side a m =
+learn-holds net ws e =
     let p = accepted-parts net ws e in
-    rw (accepted-gives net ws e) (gained-on-side net (bindings ws) (p .net-orderly) (p .activities-only) (p .fitting) side a m)
+    let g = accepted-gives net ws e in
+    let c = gained-contained net (bindings ws) (p .net-orderly) (p .activities-only) in
+    record {
+      same-start = ap (λ (n : Net). n .start) g ∙ sym (c .same-start);
+      same-end = ap (λ (n : Net). n .end) g ∙ sym (c .same-end);
+      is-orderly = orderly-facts (learnGives net ws) (ap orderly g ∙ gained-orderly net (bindings ws) (p .net-orderly) (p .activities-only));
+      on-sides = λ side a m. rw g (gained-on-side net (bindings ws) (p .net-orderly) (p .activities-only) (p .fitting) side a m);
+    }
 
 pub learn-valid : LearnValid
 learn-valid net ws w e =

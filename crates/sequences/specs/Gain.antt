@@ -4,6 +4,7 @@ use Prim.Native.Nat.{ℕ, _<_, _≤_}
 use mathlib.Core.Path.{_≡_}
 use mathlib.Core.Bool.{Bool, true, cond, _&&_}
 use mathlib.Core.List.{List, [], _∷_}
+use mathlib.Core.Logic.{_↔_, _⊎_}
 use lib.Dec.{eqb}
 use lib.ListN.{length}
 use Rattle.obligations.specs.Limits.{activities}
@@ -11,7 +12,8 @@ use Rattle.obligations.specs.Sequence.{Binding, at}
 use Rattle.net.specs.Limits.{sets}
 use Rattle.net.specs.Lists.{listed, insert}
 use Rattle.net.specs.Refusals.{Says}
-use Rattle.net.specs.Sides.{masksOf, lengthsOf, emptyAt, setsOn}
+use Rattle.net.specs.Sides.{masksOf, lengthsOf, emptyAt, setsOn, OnSide}
+use Rattle.net.specs.Orderly.{Orderly}
 use Rattle.net.specs.Put.{sideSays, putMasks, putLengths, withSides}
 use Rattle.net.specs.declared.Net.{Net}
 use Rattle.net.specs.declared.Side.{Side}
@@ -80,3 +82,10 @@ pub record SetOf (side : Side) (s : List Binding) (a m : ℕ) : Type 0 where
   pub inside : position < length s
   pub activity-is : at s position .activity ≡ a
   pub set-is : setFor side (at s position) ≡ m
+
+-- the second net is the first with exactly the sequence's sets more
+pub record Gains (net : Net) (s : List Binding) (after : Net) : Type 0 where
+  pub same-start : after .start ≡ net .start
+  pub same-end : after .end ≡ net .end
+  pub is-orderly : Orderly after
+  pub on-sides : (side : Side) (a m : ℕ) → OnSide after side a m ↔ (OnSide net side a m ⊎ SetOf side s a m)

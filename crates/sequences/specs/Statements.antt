@@ -5,17 +5,16 @@ use Prim.Native.Nat.{ℕ, _*_, _≤_, _<_}
 use mathlib.Core.Path.{_≡_}
 use mathlib.Core.Bool.{true}
 use mathlib.Core.List.{List}
-use mathlib.Core.Logic.{_↔_, _⊎_}
+use mathlib.Core.Logic.{_↔_}
 use lib.ListN.{length, getD}
 use Rattle.obligations.specs.Limits.{masks, positions}
 use Rattle.obligations.specs.Sequence.{bindings, words, WellFormed}
-use Rattle.net.specs.Sides.{OnSide, Masks}
+use Rattle.net.specs.Sides.{Masks}
 use Rattle.net.specs.Orderly.{Orderly}
 use Rattle.net.specs.Valid.{Valid}
 use Rattle.net.specs.declared.Net.{Net}
-use Rattle.net.specs.declared.Side.{Side}
 use Rattle.walks.specs.Walks.{Passes}
-use Rattle.sequences.specs.Gain.{Fits, SetOf}
+use Rattle.sequences.specs.Gain.{Fits, Gains}
 use Rattle.sequences.specs.Learn.{learnSays, learnGives}
 use Rattle.sequences.specs.Judge.{judgeSays}
 use Rattle.sequences.specs.Follow.{followed, followSays, followGives}
@@ -37,11 +36,9 @@ pub record Learnable (net : Net) (ws : List ℕ) : Type 0 where
 abbrev pub LearnAccepts : Type 0
 LearnAccepts = (net : Net) (ws : List ℕ) → Words ws → (learnSays net ws .ok ≡ true) ↔ Learnable net ws
 
--- after an accepted learn each side holds exactly its old sets and the sequence's
+-- an accepted learn returns the net with exactly the sequence's sets more
 abbrev pub LearnHolds : Type 0
-LearnHolds =
-    (net : Net) (ws : List ℕ) → learnSays net ws .ok ≡ true → (side : Side) (a m : ℕ)
-    → OnSide (learnGives net ws) side a m ↔ (OnSide net side a m ⊎ SetOf side (bindings ws) a m)
+LearnHolds = (net : Net) (ws : List ℕ) → learnSays net ws .ok ≡ true → Gains net (bindings ws) (learnGives net ws)
 
 -- an accepted sequence is valid in the net that learn returns
 abbrev pub LearnValid : Type 0

@@ -84,6 +84,7 @@ fn first_missing(net: Net, words: &[u32], n: usize) -> u32
     earlier(x, y)
 }
 
+// The earlier of two positions, where 0 is none.
 fn earlier(p: u32, q: u32) -> u32
     ensures { λ r. ⌜ r ≡ earlier p q ⌝ }
 {

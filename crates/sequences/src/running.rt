@@ -37,6 +37,7 @@ pub fn run(words: &[u32], n: usize) -> Ran
     }
 }
 
+// The larger of two totals.
 fn larger(a: u32, b: u32) -> u32
     ensures { λ r. ⌜ r ≡ max a b ⌝ }
 {

@@ -119,3 +119,8 @@ module _ (net : Net) (o : orderly net ≡ true) where
 
       same : lowest (lost net) ≡ a
       same = lowest-unique (lost-lowest there) l
+
+-- a net of which the check says no refusal is orderly
+pub said-orderly : (net : Net) → checkSays net .ok ≡ true → orderly net ≡ true
+unfolding checkSays
+said-orderly net e = ⊎-elim (λ o. o) (λ o. absurd (false-not-true (refl {a = false}) (rw o at e))) (true-or-false (orderly net))

@@ -6,11 +6,11 @@ use lib.Seq.{length-take-le}
 use Rattle.script.proofs.line.run_line.Statement.{statement}
 use Rattle.script.proofs.line.run_line.Tie as tie
 
+shared-slice-read-if1 : tie.Need-shared-slice-read-if1
+shared-slice-read-if1 c = search needs
+
 returns : tie.Need-returns
 returns c = search needs
-
-shared-slice-read-if2 : tie.Need-shared-slice-read-if2
-shared-slice-read-if2 c = search needs
 
 returns-2 : tie.Need-returns-2
 returns-2 c = search needs
@@ -106,8 +106,8 @@ pub run-line-spec : {M : Type 1} → statement M
 run-line-spec =
     tie.close
     (tie.spec
+    shared-slice-read-if1
     returns
-    shared-slice-read-if2
     returns-2
     find-byte-requires
     slice-aggregate-read-numbers
