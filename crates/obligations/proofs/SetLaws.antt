@@ -1,5 +1,5 @@
--- Laws of sets of activities: membership after each operation, the subset test, and extensionality. Each is read off the
--- bits of the masks. Assumes nothing.
+-- Laws of sets of activities: membership after each operation, the subset test, extensionality, and sets that differ by a
+-- member. Each is read off the bits of the masks or off membership. Assumes nothing.
 use Prim.Native.Nat.{ℕ, zero, suc, _-_, _/_, _^_, _≤_, _<_, min, max}
 use mathlib.Core.Path.{_≡_, refl, sym, ap, _∙_}
 use mathlib.Core.Logic.{_⊎_, inl, inr, ⊎-elim}

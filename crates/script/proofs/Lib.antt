@@ -1,2 +1,3 @@
 -- Laws that the proofs of this crate's functions use.
 mod CountLaws
+mod BufferLaws

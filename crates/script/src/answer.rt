@@ -4,7 +4,10 @@ use crate::output::append;
 use crate::output::append_number;
 use crate::output::append_words;
 ghost use Prim.Native.Nat.{_≤_};
+ghost use mathlib.Core.Path.{_≡_};
+ghost use mathlib.Core.Bool.{false};
 ghost use lib.ListN.{length};
+ghost use Rattle.script.specs.declared.answer.Answer.the-variants.{Refused};
 
 // `changed`: a word or byte of a lent buffer that the call must leave as it was has changed. `count`: how many words stand
 // at the front of the word buffer.
@@ -62,7 +65,9 @@ pub enum Answer {
 }
 
 // A refusal of a call that is lent no buffer.
-pub fn refused(number: u32, place: u32) -> Answer {
+pub fn refused(number: u32, place: u32) -> Answer
+    ensures { λ r. ⌜ r ≡ Refused number place false ⌝ }
+{
     Answer::Refused {
         number,
         place,

@@ -4,7 +4,8 @@
 // The functions that make one give only its length in their `ensures`, which is what lending it takes.
 
 ghost use mathlib.Core.Path.{_≡_};
-ghost use lib.ListN.{length};
+ghost use lib.ListN.{length, drop};
+ghost use Rattle.script.specs.Buffers.{untouchedWord, untouchedByte, Filled, allAre};
 
 const UNTOUCHED_WORD: u32 = 4294967295;
 
@@ -38,7 +39,9 @@ pub fn byte_room() -> [u8; 131072]
 }
 
 // Gives every word the known value.
-pub fn fill_words(words: &mut [u32]) {
+pub fn fill_words(words: &mut [u32])
+    ensures { λ _. ⌜ Filled untouchedWord (now (words .entry)) (now (words .exit)) ⌝ }
+{
     let mut k = 0;
     while k < words.len() {
         words[k] = UNTOUCHED_WORD;
@@ -47,7 +50,9 @@ pub fn fill_words(words: &mut [u32]) {
 }
 
 // Whether the words from index `from` on have the known value.
-pub fn words_untouched(words: &[u32], from: usize) -> bool {
+pub fn words_untouched(words: &[u32], from: usize) -> bool
+    ensures { λ r. ⌜ r ≡ allAre untouchedWord (drop from (now (words .entry))) ⌝ }
+{
     let mut k = from;
     while k < words.len() {
         if words[k] != UNTOUCHED_WORD {
@@ -59,7 +64,9 @@ pub fn words_untouched(words: &[u32], from: usize) -> bool {
 }
 
 // Gives every byte the known value.
-pub fn fill_bytes(bytes: &mut [u8]) {
+pub fn fill_bytes(bytes: &mut [u8])
+    ensures { λ _. ⌜ Filled untouchedByte (now (bytes .entry)) (now (bytes .exit)) ⌝ }
+{
     let mut k = 0;
     while k < bytes.len() {
         bytes[k] = UNTOUCHED_BYTE;
@@ -68,7 +75,9 @@ pub fn fill_bytes(bytes: &mut [u8]) {
 }
 
 // Whether the bytes from index `from` on have the known value.
-pub fn bytes_untouched(bytes: &[u8], from: usize) -> bool {
+pub fn bytes_untouched(bytes: &[u8], from: usize) -> bool
+    ensures { λ r. ⌜ r ≡ allAre untouchedByte (drop from (now (bytes .entry))) ⌝ }
+{
     let mut k = from;
     while k < bytes.len() {
         if bytes[k] != UNTOUCHED_BYTE {

@@ -4,6 +4,7 @@
 use crate::answer::Answer;
 use net::Net;
 ghost use Prim.Native.Nat.{_+_, _*_, _≤_, _<_};
+ghost use mathlib.Core.Path.{_≡_};
 ghost use lib.ListN.{length};
 
 pub const REGISTERS: u32 = 4;
@@ -22,7 +23,7 @@ const OUTPUTS: usize = 578;
 // Where register r stands.
 fn place(r: u32) -> usize
     requires { ⌜ r < 4 ⌝ }
-    ensures { λ p. ⌜ p + 1090 ≤ 4360 ⌝ }
+    ensures { λ p. ⌜ p ≡ r * 1090 ⌝ }
 {
     (r * WORDS) as usize
 }

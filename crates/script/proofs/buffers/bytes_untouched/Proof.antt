@@ -1,24 +1,30 @@
--- `bytes_untouched` meets its contract: the index is below the length where a byte is read. Assumes nothing.
-use Prim.Native.Nat.{_-_, _≤_}
+-- `bytes_untouched` meets its contract: what it says of the buffer from `from` on, it says from k on. Assumes nothing.
+use Prim.Native.Nat.{_-_}
+use mathlib.Core.Path.{_≡_, refl, sym, _∙_}
+use native.Mathlib.Omega.{arith}
 use borrow.Author.Needs.{needs}
-use lib.ListN.{length}
+use lib.ListN.{length, drop}
+use Rattle.script.specs.Buffers.{untouchedByte, allAre}
+use Rattle.script.proofs.BufferLaws.{same-on, differs-at, none-left}
 use Rattle.script.proofs.buffers.bytes_untouched.Statement.{statement}
 use Rattle.script.proofs.buffers.bytes_untouched.Tie as tie
 
 abbrev Inv-loop : tie.InvT-loop
-Inv-loop bytes from k₀ k = 0 ≤ k
+Inv-loop bytes from k₀ k = allAre untouchedByte (drop from bytes) ≡ allAre untouchedByte (drop k bytes)
 
 abbrev μ-loop : tie.MeasureT-loop
 μ-loop bytes from k₀ k = length bytes - k
 
 loop-holds : tie.Need-loop-holds Inv-loop μ-loop
-loop-holds c = search needs
+loop-holds c = refl
 
 shared-slice-read-if1 : tie.Need-shared-slice-read-if1 Inv-loop μ-loop
 shared-slice-read-if1 c = search needs
 
 returns : tie.Need-returns Inv-loop μ-loop
-returns c = search needs
+returns c =
+    let k = c .before .before .before in
+    sym (k .loop .inv ∙ differs-at untouchedByte (k .before .args .bytes .now) (k .loop .k) (omega arith) (c .if1 .taken))
 
 add-k : tie.Need-add-k Inv-loop μ-loop
 add-k c = search needs
@@ -27,10 +33,14 @@ loop-less : tie.Need-loop-less Inv-loop μ-loop
 loop-less c = search needs
 
 loop-again : tie.Need-loop-again Inv-loop μ-loop
-loop-again c = search needs
+loop-again c =
+    let k = c .before .before .before in
+    k .loop .inv ∙ same-on untouchedByte (k .before .args .bytes .now) (k .loop .k) (omega arith) (c .if1 .left)
 
 returns-2 : tie.Need-returns-2 Inv-loop μ-loop
-returns-2 c = search needs
+returns-2 c =
+    let k = c .before in
+    sym (k .loop .inv ∙ none-left untouchedByte (k .before .args .bytes .now) (k .loop .k) (omega arith))
 
 pub bytes-untouched-spec : {M : Type 1} → statement M
 bytes-untouched-spec =

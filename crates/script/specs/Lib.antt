@@ -1,0 +1,2 @@
+-- The definitions that the contracts of `script` cite.
+pub mod Buffers
