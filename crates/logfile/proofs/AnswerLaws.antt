@@ -9,12 +9,12 @@ use lib.Dec.{leb}
 use lib.ListN.{length, drop, length-map}
 use Rattle.obligations.specs.Limits.{positions}
 use Rattle.obligations.proofs.BoolLaws.{and-left, and-right, false-not-true}
-use Rattle.net.specs.Refusals.{too-long, number-form}
+use Rattle.net.specs.Refusals.{outside-limits, number-form}
 use Rattle.text.specs.Fields.{comma, split}
 use Rattle.text.specs.Decimal.{value, allNumbers, values}
 use Rattle.text.specs.Members.{highest}
 use Rattle.logfile.specs.Limits.{logRows}
-use Rattle.logfile.specs.LogFile.{Reading, row, end, fault, isSessions, entries, readFields, readParts, readLine, past, rowSaid, readingSays, readingLeaves, RowRead}
+use Rattle.logfile.specs.LogFile.{Reading, row, end, fault, isSessions, entries, readFields, readParts, readLine, past, rowMeans, readingSays, readingLeaves, RowRead}
 use Rattle.logfile.specs.Row.{answerOf, isRow, Filled, IsRow, second}
 use Rattle.logfile.specs.declared.RowAnswer.{RowAnswer}
 
@@ -36,7 +36,7 @@ unfolding readLine readFields
 line-row n l s t = go (split comma l) refl
   where
     told : (f g : List ℕ) → split comma l ≡ f ∷ g ∷ [] → (a b : Bool) → isSessions f && allNumbers highest (entries g) ≡ a → leb (length (entries g)) positions && leb n (logRows + 1) ≡ b
-        → cond a (cond b (row (value f) (values (entries g))) (fault too-long n)) (fault number-form n) ≡ row s t → LineRow n l s t
+        → cond a (cond b (row (value f) (values (entries g))) (fault outside-limits n)) (fault number-form n) ≡ row s t → LineRow n l s t
     told f g e true true p q r =
         record {
           first = f;
@@ -69,7 +69,7 @@ line-filled {n} {l} {s} {t} out₀ out r f =
 
 -- ---- answers
 
-answer-says : (x : Reading) → rowSaid (answerOf x) ≡ readingSays x
+answer-says : (x : Reading) → rowMeans (answerOf x) ≡ readingSays x
 answer-says (row s t) = refl
 answer-says end = refl
 answer-says (fault n p) = refl
@@ -91,7 +91,7 @@ row-given end q = absurd (false-not-true refl q)
 row-given (fault n p) q = absurd (false-not-true refl q)
 
 pub read-stays : (x : Reading) (r : RowAnswer) (out₀ out : List ℕ) → r ≡ answerOf x → isRow r ≡ false → out ≡ out₀ → RowRead x out₀ r out
-read-stays x r out₀ out e q o = record { says = ap rowSaid e ∙ answer-says x; leaves = o ∙ stays-leaves x out₀ (ap isRow (sym e) ∙ q) }
+read-stays x r out₀ out e q o = record { says = ap rowMeans e ∙ answer-says x; leaves = o ∙ stays-leaves x out₀ (ap isRow (sym e) ∙ q) }
 
 pub read-given : (x : Reading) (r : RowAnswer) (s : ℕ) (t out₀ out₁ out : List ℕ) → r ≡ answerOf x → x ≡ row s t → out₁ ≡ out₀ → out ≡ readingLeaves (row s t) out₁ → RowRead x out₀ r out
-read-given x r s t out₀ out₁ out e q o w = record { says = ap rowSaid e ∙ answer-says x; leaves = rw (q, ← o) w }
+read-given x r s t out₀ out₁ out e q o w = record { says = ap rowMeans e ∙ answer-says x; leaves = rw (q, ← o) w }

@@ -14,8 +14,8 @@ use Rattle.obligations.proofs.BoolLaws.{and-left}
 use Rattle.obligations.proofs.SetLaws.{lt-or-le}
 use Rattle.text.specs.Bytes.{sameBytes}
 use Rattle.text.specs.Lines.{lines, lineEnd, nextLine}
-use Rattle.net.specs.Refusals.{too-long, line-form}
-use Rattle.logfile.specs.LogFile.{Reading, row, end, fault, readLine, past, rowAfter, logHeader, afterHeader, fits, readRow}
+use Rattle.net.specs.Refusals.{outside-limits, line-form}
+use Rattle.logfile.specs.LogFile.{Reading, row, end, fault, readLine, past, rowAfter, logHeader, afterHeader, sizesOk, readRow}
 use Rattle.logfile.specs.Cursor.{start, fromLine, begun, within, readNext, rowStart, cursorAfter, Reached, at-start, one-more}
 use Rattle.logfile.specs.declared.Cursor.{Cursor}
 use Rattle.logfile.specs.declared.Begun.{Begun}
@@ -48,7 +48,7 @@ row-line n (suc k) (l ∷ ls) s t e =
 -- a row that is given was asked for, with a text and a buffer that fit, and after the right header
 pub row-lines : (text : List ℕ) (r room s : ℕ) (t : List ℕ) → readRow text r room ≡ row s t → (1 ≤ r) × (ls : List (List ℕ)) × (rowAfter 2 (r - 1) ls ≡ row s t)
 unfolding readRow
-row-lines text r room s t = go (ltb 0 r && fits text room) refl
+row-lines text r room s t = go (ltb 0 r && sizesOk text room) refl
   where
     header : (ls : List (List ℕ)) → afterHeader (r - 1) ls ≡ row s t → (ls′ : List (List ℕ)) × (rowAfter 2 (r - 1) ls′ ≡ row s t)
     header [] e = absurd (fault-no-row e)
@@ -58,8 +58,8 @@ row-lines text r room s t = go (ltb 0 r && fits text room) refl
         right true e = (ls, e)
         right false e = absurd (fault-no-row e)
 
-    go : (b : Bool) → ltb 0 r && fits text room ≡ b → cond b (afterHeader (r - 1) (lines text)) (fault too-long 0) ≡ row s t → (1 ≤ r) × (ls : List (List ℕ)) × (rowAfter 2 (r - 1) ls ≡ row s t)
-    go true p e = let w = header (lines text) e in (ltb-true 0 r (and-left (ltb 0 r) (fits text room) p), w .0, w .1)
+    go : (b : Bool) → ltb 0 r && sizesOk text room ≡ b → cond b (afterHeader (r - 1) (lines text)) (fault outside-limits 0) ≡ row s t → (1 ≤ r) × (ls : List (List ℕ)) × (rowAfter 2 (r - 1) ls ≡ row s t)
+    go true p e = let w = header (lines text) e in (ltb-true 0 r (and-left (ltb 0 r) (sizesOk text room) p), w .0, w .1)
     go false p e = absurd (fault-no-row e)
 
 -- ---- a row that isn't given, and those after it
@@ -93,10 +93,10 @@ stays-header k j (l ∷ ls) h = go (sameBytes l logHeader) h
 
 pub later-same : (text : List ℕ) (r q room : ℕ) → 1 ≤ r → r ≤ q → ((s : ℕ) (t : List ℕ) → readRow text r room ≡ row s t → ⊥) → readRow text q room ≡ readRow text r room
 unfolding readRow
-later-same text r q room h l = rw (lt-ltb 0 r h, lt-ltb 0 q (omega arith)) (go (fits text room))
+later-same text r q room h l = rw (lt-ltb 0 r h, lt-ltb 0 q (omega arith)) (go (sizesOk text room))
   where
-    go : (b : Bool) → ((s : ℕ) (t : List ℕ) → cond b (afterHeader (r - 1) (lines text)) (fault too-long 0) ≡ row s t → ⊥)
-        → cond b (afterHeader (q - 1) (lines text)) (fault too-long 0) ≡ cond b (afterHeader (r - 1) (lines text)) (fault too-long 0)
+    go : (b : Bool) → ((s : ℕ) (t : List ℕ) → cond b (afterHeader (r - 1) (lines text)) (fault outside-limits 0) ≡ row s t → ⊥)
+        → cond b (afterHeader (q - 1) (lines text)) (fault outside-limits 0) ≡ cond b (afterHeader (r - 1) (lines text)) (fault outside-limits 0)
     go true g =
         let e : q - 1 ≡ r - 1 + (q - r) = omega arith in
         rw e (stays-header (r - 1) (q - r) (lines text) g)
@@ -112,10 +112,10 @@ pub record Row (text : List ℕ) (c : Cursor) (s : ℕ) (t : List ℕ) : Type 0 
   pub inside : i < length text
   pub reads : readLine n (slice i (lineEnd text i) text) ≡ row s t
 
-row-at : (text : List ℕ) (c : Cursor) (room s : ℕ) (t : List ℕ) → readNext text c room ≡ row s t → (fits text room ≡ true) × Row text c s t
-row-at text c room s t e = fit (fits text room) refl
+row-at : (text : List ℕ) (c : Cursor) (room s : ℕ) (t : List ℕ) → readNext text c room ≡ row s t → (sizesOk text room ≡ true) × Row text c s t
+row-at text c room s t e = fit (sizesOk text room) refl
   where
-    at : fits text room ≡ true → (b : Begun) → begun text (within text c) (c .line) ≡ b → Row text c s t
+    at : sizesOk text room ≡ true → (b : Begun) → begun text (within text c) (c .line) ≡ b → Row text c s t
     at f Differs b = absurd (fault-no-row (sym (next-differs text c room f b) ∙ e))
     at f (At i n) b =
         let p = begun-passed text (within text c) (c .line) i n (omega arith) b in
@@ -124,7 +124,7 @@ row-at text c room s t e = fit (fits text room) refl
         (λ h. absurd (end-no-row (sym (next-end text c room f i n p h) ∙ e)))
         (lt-or-le i (length text))
 
-    fit : (b : Bool) → fits text room ≡ b → (fits text room ≡ true) × Row text c s t
+    fit : (b : Bool) → sizesOk text room ≡ b → (sizesOk text room ≡ true) × Row text c s t
     fit true f = (f, at f (begun text (within text c) (c .line)) refl)
     fit false f = absurd (fault-no-row (sym (next-unfit text c room f) ∙ e))
 
@@ -140,7 +140,7 @@ from-row n k ls h = rw (lt-ltb 1 n h)
 abbrev Stands : List ℕ → ℕ → ℕ → Cursor → Type 0
 Stands text room k c = (j : ℕ) → readRow text (suc k + j) room ≡ fromLine (c .line) j (lines (drop (within text c) text))
 
-stands-start : (text : List ℕ) (room : ℕ) → fits text room ≡ true → Stands text room 0 start
+stands-start : (text : List ℕ) (room : ℕ) → sizesOk text room ≡ true → Stands text room 0 start
 stands-start text room f j =
     let z : within text start ≡ 0 = omega arith in
     let e : 1 + j - 1 ≡ j = omega arith in
@@ -159,14 +159,14 @@ stands-more text room k c s t h r j =
     ∙ ap (λ (x : Reading). past x (rowAfter (r .n + 1) j (lines (drop (nextLine text e) text)))) (r .reads)
     ∙ sym (rw (w, m) (from-row (r .n + 1) j (lines (drop (nextLine text e) text)) (omega (arith, r .passed .low))))
 
-reached-stands : (text : List ℕ) (room k : ℕ) (c : Cursor) → fits text room ≡ true → Reached text room k c → Stands text room k c
+reached-stands : (text : List ℕ) (room k : ℕ) (c : Cursor) → sizesOk text room ≡ true → Reached text room k c → Stands text room k c
 reached-stands text room k c f at-start = stands-start text room f
 reached-stands text room k c f (one-more {k = k′} {c = c′} s t w e) = stands-more text room k′ c′ s t (reached-stands text room k′ c′ f w) (row-at text c′ room s t e .1)
 
 pub cursor-reads-next : (text : List ℕ) (room k : ℕ) (c : Cursor) → Reached text room k c → readNext text c room ≡ readRow text (suc k) room
 unfolding readNext
-cursor-reads-next text room k c w = go (fits text room) refl
+cursor-reads-next text room k c w = go (sizesOk text room) refl
   where
-    go : (b : Bool) → fits text room ≡ b → cond b (fromLine (c .line) 0 (lines (drop (within text c) text))) (fault too-long 0) ≡ readRow text (suc k) room
+    go : (b : Bool) → sizesOk text room ≡ b → cond b (fromLine (c .line) 0 (lines (drop (within text c) text))) (fault outside-limits 0) ≡ readRow text (suc k) room
     go true f = sym (rw (add-zero (suc k)) at (reached-stands text room k c f w 0))
     go false f = sym (row-unfit text (suc k) room f)

@@ -3,11 +3,11 @@ use Prim.Native.Nat.{ℕ}
 use mathlib.Core.Path.{_≡_, refl}
 use mathlib.Core.List.{List, [], _∷_, _++_}
 use lib.ListN.{replicate}
-use Rattle.net.specs.Refusals.{too-long, line-form, number-form}
+use Rattle.net.specs.Refusals.{outside-limits, line-form, number-form}
 use Rattle.text.specs.Lines.{cr, lf, unlines}
 use Rattle.text.specs.Fields.{comma, space, join}
 use Rattle.text.specs.Decimal.{isNumber}
-use Rattle.logfile.specs.LogFile.{Reading, row, end, fault, isSessions, readFields, readLine, rowAfter, logHeader, fits, readRow}
+use Rattle.logfile.specs.LogFile.{Reading, row, end, fault, isSessions, readFields, readLine, rowAfter, logHeader, sizesOk, readRow}
 
 -- the digits 0 to 4
 abbrev d0 : ℕ
@@ -24,7 +24,7 @@ d3 = 51
 
 -- row r of a log of these lines, for a buffer of 64 words
 read : List (List ℕ) → ℕ → Reading
-unfolding readRow fits rowAfter readLine readFields isSessions isNumber
+unfolding readRow sizesOk rowAfter readLine readFields isSessions isNumber
 read ls r = readRow (unlines (logHeader ∷ ls)) r 64
 
 -- `12,0 1 3` and `1000000,0 3`
@@ -38,13 +38,13 @@ paper-log :
     (read (first ∷ second ∷ []) 1 ≡ row 12 (0 ∷ 1 ∷ 3 ∷ []))
     × (read (first ∷ second ∷ []) 2 ≡ row 1000000 (0 ∷ 3 ∷ []))
     × (read (first ∷ second ∷ []) 3 ≡ end)
-    × (read (first ∷ second ∷ []) 0 ≡ fault too-long 0)
+    × (read (first ∷ second ∷ []) 0 ≡ fault outside-limits 0)
 unfolding read first second
 paper-log = (refl, refl, refl, refl)
 
 -- the last line may lack its CR LF; a buffer of 63 words is too short for every row
-last-line : (readRow (logHeader ++ (cr ∷ lf ∷ first)) 1 64 ≡ row 12 (0 ∷ 1 ∷ 3 ∷ [])) × (readRow (logHeader ++ (cr ∷ lf ∷ first)) 9 63 ≡ fault too-long 0)
-unfolding first readRow fits rowAfter readLine readFields isSessions isNumber
+last-line : (readRow (logHeader ++ (cr ∷ lf ∷ first)) 1 64 ≡ row 12 (0 ∷ 1 ∷ 3 ∷ [])) × (readRow (logHeader ++ (cr ∷ lf ∷ first)) 9 63 ≡ fault outside-limits 0)
+unfolding first readRow sizesOk rowAfter readLine readFields isSessions isNumber
 last-line = (refl, refl)
 
 -- the empty file, a file with LF only, and a header that lacks its last byte: 13 at line 1
@@ -52,7 +52,7 @@ headers :
     (readRow [] 1 64 ≡ fault line-form 1)
     × (readRow (logHeader ++ (lf ∷ first)) 1 64 ≡ fault line-form 1)
     × (readRow (115 ∷ 101 ∷ 115 ∷ 115 ∷ 105 ∷ 111 ∷ 110 ∷ 115 ∷ comma ∷ 116 ∷ 114 ∷ 97 ∷ 99 ∷ []) 1 64 ≡ fault line-form 1)
-unfolding first readRow fits
+unfolding first readRow sizesOk
 headers = (refl, refl, refl)
 
 -- `12,` is the empty trace; `12, ` and `,` are 14; the empty line and a line of three fields are 13
@@ -80,7 +80,7 @@ long n more = d1 ∷ comma ∷ (join space (replicate n (d3 ∷ [])) ++ more)
 
 entries-64 :
     (read (long 64 [] ∷ []) 1 ≡ row 1 (replicate 64 3))
-    × (read (long 65 [] ∷ []) 1 ≡ fault too-long 2)
+    × (read (long 65 [] ∷ []) 1 ≡ fault outside-limits 2)
     × (read (long 65 (space ∷ d0 ∷ d0 ∷ []) ∷ []) 1 ≡ fault number-form 2)
 unfolding read long
 entries-64 = (refl, refl, refl)
@@ -94,6 +94,6 @@ order = (refl, refl, refl)
 rows : ℕ → List (List ℕ)
 rows n = replicate n (d1 ∷ comma ∷ [])
 
-rows-1000 : (read (rows 1001) 1000 ≡ row 1 []) × (read (rows 1001) 1001 ≡ fault too-long 1002) × (read (rows 1000) 1001 ≡ end)
+rows-1000 : (read (rows 1001) 1000 ≡ row 1 []) × (read (rows 1001) 1001 ≡ fault outside-limits 1002) × (read (rows 1000) 1001 ≡ end)
 unfolding read rows
 rows-1000 = (refl, refl, refl)

@@ -13,12 +13,12 @@ use lib.Seq.{slice, take-all}
 use Rattle.obligations.specs.Limits.{positions}
 use Rattle.obligations.proofs.BoolLaws.{and-right, false-not-true}
 use Rattle.obligations.proofs.SetLaws.{lt-or-le}
-use Rattle.net.specs.Refusals.{too-long, line-form}
+use Rattle.net.specs.Refusals.{outside-limits, line-form}
 use Rattle.text.specs.Bytes.{sameBytes}
 use Rattle.text.specs.Lines.{lines, lineEnd, nextLine}
 use Rattle.text.proofs.LineLaws.{lines-step, lines-end}
 use Rattle.logfile.specs.Limits.{logBytes, logRows}
-use Rattle.logfile.specs.LogFile.{Reading, row, end, fault, readLine, past, rowAfter, logHeader, afterHeader, fits, readRow}
+use Rattle.logfile.specs.LogFile.{Reading, row, end, fault, readLine, past, rowAfter, logHeader, afterHeader, sizesOk, readRow}
 use Rattle.logfile.specs.Row.{answerOf, isRow}
 use Rattle.logfile.specs.Cursor.{fromLine, begun, within, readNext, rowStart, cursorAfter}
 use Rattle.logfile.specs.declared.Cursor.{Cursor}
@@ -102,21 +102,21 @@ pub rows-past : (s : List ℕ) (i n e k : ℕ) → i < length s → e ≡ lineEn
 unfolding rowAfter
 rows-past s i n e k h q = rw (lines-step s i e (nextLine s e) h q refl)
 
-pub fits-room : (text : List ℕ) (room : ℕ) → fits text room ≡ true → positions ≤ room
-unfolding fits
-fits-room text room f = leb-true positions room (and-right (leb (length text) logBytes) (leb positions room) f)
+pub sizes-room : (text : List ℕ) (room : ℕ) → sizesOk text room ≡ true → positions ≤ room
+unfolding sizesOk
+sizes-room text room f = leb-true positions room (and-right (leb (length text) logBytes) (leb positions room) f)
 
 -- ---- reading by number
 
-pub row-unfit : (text : List ℕ) (r room : ℕ) → fits text room ≡ false → readRow text r room ≡ fault too-long 0
+pub row-unfit : (text : List ℕ) (r room : ℕ) → sizesOk text room ≡ false → readRow text r room ≡ fault outside-limits 0
 unfolding readRow
 row-unfit text r room f = rw (f, and-false (ltb 0 r))
 
-pub row-zero : (text : List ℕ) (r room : ℕ) → r ≡ 0 → readRow text r room ≡ fault too-long 0
+pub row-zero : (text : List ℕ) (r room : ℕ) → r ≡ 0 → readRow text r room ≡ fault outside-limits 0
 unfolding readRow
 row-zero text r room z = rw z
 
-pub row-start : (text : List ℕ) (r room : ℕ) → 0 < r → fits text room ≡ true → readRow text r room ≡ fromLine 1 (r - 1) (lines (drop 0 text))
+pub row-start : (text : List ℕ) (r room : ℕ) → 0 < r → sizesOk text room ≡ true → readRow text r room ≡ fromLine 1 (r - 1) (lines (drop 0 text))
 unfolding readRow fromLine
 row-start text r room h f = rw (lt-ltb 0 r h, f)
 
@@ -128,7 +128,7 @@ pub record Going (text : List ℕ) (r room i n : ℕ) : Type 0 where
   pub ahead : n ≤ r + 1
   pub reads : readRow text r room ≡ rowAfter n (r + 1 - n) (lines (drop i text))
 
-pub going-start : (text : List ℕ) (r room i n : ℕ) → 0 < r → fits text room ≡ true → Passed text 0 1 i n → Going text r room i n
+pub going-start : (text : List ℕ) (r room i n : ℕ) → 0 < r → sizesOk text room ≡ true → Passed text 0 1 i n → Going text r room i n
 going-start text r room i n h f p =
     let e : n ≡ 2 = p .line-is in
     let k : r - 1 ≡ r + 1 - n = omega arith in
@@ -174,11 +174,11 @@ module _ (text : List ℕ) (r room i n : ℕ) (g : Going text r room i n) where
 -- ---- reading at a cursor
 
 module _ (text : List ℕ) (c : Cursor) (room : ℕ) where
-  pub next-unfit : fits text room ≡ false → readNext text c room ≡ fault too-long 0
+  pub next-unfit : sizesOk text room ≡ false → readNext text c room ≡ fault outside-limits 0
   unfolding readNext
   next-unfit f = rw f
 
-  module _ (f : fits text room ≡ true) where
+  module _ (f : sizesOk text room ≡ true) where
     next-fit : readNext text c room ≡ fromLine (c .line) 0 (lines (drop (within text c) text))
     unfolding readNext
     next-fit = rw f

@@ -9,7 +9,7 @@ use lib.Dec.{leb}
 use lib.ListN.{length, length-map}
 use lib.Seq.{slice}
 use Rattle.obligations.specs.Limits.{positions}
-use Rattle.net.specs.Refusals.{too-long, line-form, number-form}
+use Rattle.net.specs.Refusals.{outside-limits, line-form, number-form}
 use Rattle.text.specs.Bytes.{before, count}
 use Rattle.text.specs.Fields.{comma, split}
 use Rattle.text.specs.Decimal.{value, parseNumber, values}
@@ -74,17 +74,17 @@ module _ (n : ℕ) (f t : List ℕ) where
     row-zero-sessions z = let w = number-value mostSessions f v q in rw (w .0, w .1, le-ltb 0 v (omega arith))
 
     module _ (p : 0 < v) (k : ℕ) (m : countEntries t ≡ counted.Count k) where
-      row-numbers : readFields n f t ≡ cond (leb k positions && leb n (logRows + 1)) (row v (values (entries t))) (fault too-long n)
+      row-numbers : readFields n f t ≡ cond (leb k positions && leb n (logRows + 1)) (row v (values (entries t))) (fault outside-limits n)
       unfolding readFields isSessions
       row-numbers =
           let w = number-value mostSessions f v q in
           let c = counted-value t k m in
           rw (w .0, w .1, lt-ltb 0 v p, c .0, c .1)
 
-      pub row-long : positions < k → readFields n f t ≡ fault too-long n
+      pub row-long : positions < k → readFields n f t ≡ fault outside-limits n
       row-long l = row-numbers ∙ rw (lt-leb k positions l)
 
-      pub row-many : logRows + 1 < n → readFields n f t ≡ fault too-long n
+      pub row-many : logRows + 1 < n → readFields n f t ≡ fault outside-limits n
       row-many l = row-numbers ∙ rw (lt-leb n (logRows + 1) l, and-false (leb k positions))
 
       pub row-good : k ≤ positions → n ≤ logRows + 1 → answerOf (readFields n f t) ≡ answer.Row v k

@@ -8,8 +8,8 @@ use lib.ListN.{length, drop}
 use lib.Seq.{slice}
 use Rattle.text.specs.Bytes.{sameBytes}
 use Rattle.text.specs.Lines.{lines, lineEnd, nextLine}
-use Rattle.net.specs.Refusals.{too-long}
-use Rattle.logfile.specs.LogFile.{Reading, row, end, fault, logHeader, rowAfter, afterHeader, fits, RowRead}
+use Rattle.net.specs.Refusals.{outside-limits}
+use Rattle.logfile.specs.LogFile.{Reading, row, end, fault, logHeader, rowAfter, afterHeader, sizesOk, RowRead}
 use Rattle.logfile.specs.declared.Begun.{Begun}
 use Rattle.logfile.specs.declared.Begun.the-variants.{At, Differs}
 use Rattle.logfile.specs.declared.Cursor.{Cursor}
@@ -28,7 +28,7 @@ within text c = min (c .at) (length text)
 
 -- the row at a cursor
 unfoldable pub readNext : List ℕ → Cursor → ℕ → Reading
-readNext text c room = cond (fits text room) (fromLine (c .line) 0 (lines (drop (within text c) text))) (fault too-long 0)
+readNext text c room = cond (sizesOk text room) (fromLine (c .line) 0 (lines (drop (within text c) text))) (fault outside-limits 0)
 
 -- where the first row's line starts, and its number, for a reader at line n, which starts at i: past the header, if that
 -- is the line

@@ -12,7 +12,7 @@ use Rattle.text.specs.Lines.{lines}
 use Rattle.text.specs.Fields.{comma, space, split}
 use Rattle.text.specs.Decimal.{value, isNumber, allNumbers, values}
 use Rattle.text.specs.Members.{highest}
-use Rattle.net.specs.Refusals.{Says, accepted, refused, too-long, line-form, number-form}
+use Rattle.net.specs.Refusals.{Says, accepted, refused, outside-limits, line-form, number-form}
 use Rattle.logfile.specs.Limits.{logBytes, logRows, mostSessions}
 use Rattle.logfile.specs.declared.RowAnswer.{RowAnswer}
 use Rattle.logfile.specs.declared.RowAnswer.the-variants.{Row, End, Refused}
@@ -39,7 +39,7 @@ entries (b ∷ s) = split space (b ∷ s)
 unfoldable pub readFields : ℕ → List ℕ → List ℕ → Reading
 readFields n sessions trace =
     cond (isSessions sessions && allNumbers highest (entries trace))
-    (cond (leb (length (entries trace)) positions && leb n (logRows + 1)) (row (value sessions) (values (entries trace))) (fault too-long n))
+    (cond (leb (length (entries trace)) positions && leb n (logRows + 1)) (row (value sessions) (values (entries trace))) (fault outside-limits n))
     (fault number-form n)
 
 -- line n: 13 unless it has one comma, and so two fields
@@ -76,12 +76,12 @@ afterHeader k [] = fault line-form 1
 afterHeader k (h ∷ ls) = cond (sameBytes h logHeader) (rowAfter 2 k ls) (fault line-form 1)
 
 -- the text's length and the buffer's are as they have to be
-unfoldable pub fits : List ℕ → ℕ → Bool
-fits text room = leb (length text) logBytes && leb positions room
+unfoldable pub sizesOk : List ℕ → ℕ → Bool
+sizesOk text room = leb (length text) logBytes && leb positions room
 
 -- row r of a log, counted from 1, for a buffer of so many words
 unfoldable pub readRow : List ℕ → ℕ → ℕ → Reading
-readRow text r room = cond (ltb 0 r && fits text room) (afterHeader (r - 1) (lines text)) (fault too-long 0)
+readRow text r room = cond (ltb 0 r && sizesOk text room) (afterHeader (r - 1) (lines text)) (fault outside-limits 0)
 
 -- ---- what an answer says, and what the buffer holds then
 
@@ -91,10 +91,10 @@ pub record RowSays : Type 0 where
   pub sessions : ℕ
   pub entries : ℕ
 
-abbrev pub rowSaid : RowAnswer → RowSays
-rowSaid (Row s n) = record { says = accepted 1; sessions = s; entries = n }
-rowSaid End = record { says = accepted 0; sessions = 0; entries = 0 }
-rowSaid (Refused n p) = record { says = refused n p; sessions = 0; entries = 0 }
+abbrev pub rowMeans : RowAnswer → RowSays
+rowMeans (Row s n) = record { says = accepted 1; sessions = s; entries = n }
+rowMeans End = record { says = accepted 0; sessions = 0; entries = 0 }
+rowMeans (Refused n p) = record { says = refused n p; sessions = 0; entries = 0 }
 
 abbrev pub readingSays : Reading → RowSays
 readingSays (row s t) = record { says = accepted 1; sessions = s; entries = length t }
@@ -108,5 +108,5 @@ readingLeaves end out = out
 readingLeaves (fault n p) out = out
 
 pub record RowRead (reading : Reading) (out₀ : List ℕ) (r : RowAnswer) (out : List ℕ) : Type 0 where
-  pub says : rowSaid r ≡ readingSays reading
+  pub says : rowMeans r ≡ readingSays reading
   pub leaves : out ≡ readingLeaves reading out₀

@@ -6,10 +6,10 @@ mod row;
 ghost use mathlib.Core.Path.{_≡_};
 ghost use Prim.Native.Nat.{_≤_, min};
 ghost use lib.ListN.{length};
-ghost use Rattle.logfile.specs.LogFile.{RowRead, readRow, fits};
+ghost use Rattle.logfile.specs.LogFile.{RowRead, readRow, sizesOk};
 ghost use Rattle.logfile.specs.Cursor.{start, NextRead, begun};
 use net::refusal::LINE_FORM;
-use net::refusal::TOO_LONG;
+use net::refusal::OUTSIDE_LIMITS;
 use obligations::POSITIONS;
 use row::fill_row;
 use row::is_row;
@@ -53,10 +53,10 @@ pub fn read_row(text: &[u8], row: u64, out: &mut [u32]) -> RowAnswer
     ensures { λ r. ⌜ RowRead (readRow (now (text .entry)) row (length (now (out .entry)))) (now (out .entry)) r (now (out .exit)) ⌝ }
 {
     if row == 0 {
-        return refused(TOO_LONG, 0);
+        return refused(OUTSIDE_LIMITS, 0);
     }
-    if !is_fit(text, out.len()) {
-        return refused(TOO_LONG, 0);
+    if !sizes_ok(text, out.len()) {
+        return refused(OUTSIDE_LIMITS, 0);
     }
     let header = begin(text, 0, 1);
     let Begun::At(first, number) = header else {
@@ -85,9 +85,9 @@ pub fn read_row(text: &[u8], row: u64, out: &mut [u32]) -> RowAnswer
 pub fn next_row(text: &[u8], cursor: Cursor, out: &mut [u32]) -> NextRow
     ensures { λ r. ⌜ NextRead (now (text .entry)) cursor (now (out .entry)) r (now (out .exit)) ⌝ }
 {
-    if !is_fit(text, out.len()) {
+    if !sizes_ok(text, out.len()) {
         return NextRow {
-            answer: refused(TOO_LONG, 0),
+            answer: refused(OUTSIDE_LIMITS, 0),
             cursor,
         };
     }
@@ -149,8 +149,8 @@ fn begin(text: &[u8], i: usize, line: u32) -> Begun
 }
 
 // Whether the text is within the limit and the buffer long enough.
-fn is_fit(text: &[u8], room: usize) -> bool
-    ensures { λ r. ⌜ r ≡ fits (now (text .entry)) room ⌝ }
+fn sizes_ok(text: &[u8], room: usize) -> bool
+    ensures { λ r. ⌜ r ≡ sizesOk (now (text .entry)) room ⌝ }
 {
     if LOG_BYTES < text.len() {
         return false;

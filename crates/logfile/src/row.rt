@@ -14,7 +14,7 @@ use super::MOST_SESSIONS;
 use super::RowAnswer;
 use net::refusal::LINE_FORM;
 use net::refusal::NUMBER_FORM;
-use net::refusal::TOO_LONG;
+use net::refusal::OUTSIDE_LIMITS;
 use obligations::ACTIVITIES;
 use obligations::POSITIONS;
 use text::bytes::count_byte;
@@ -43,11 +43,11 @@ pub fn row_line(text: &[u8], i: usize, e: usize, line: u32) -> RowAnswer
         return refused(NUMBER_FORM, line);
     };
     if POSITIONS < length {
-        return refused(TOO_LONG, line);
+        return refused(OUTSIDE_LIMITS, line);
     }
     // Row r is on line r + 1.
     if LOG_ROWS + 1 < line {
-        return refused(TOO_LONG, line);
+        return refused(OUTSIDE_LIMITS, line);
     }
     RowAnswer::Row {
         sessions,

@@ -15,10 +15,10 @@ use Rattle.net.specs.declared.ContainedAnswer.{ContainedAnswer}
 use Rattle.net.specs.declared.ContainedAnswer.the-variants.{Yes, No, Refused}
 
 -- what each answer says: yes is 1 and no is 0
-abbrev pub containedSaid : ContainedAnswer → Says
-containedSaid Yes = accepted 1
-containedSaid No = accepted 0
-containedSaid (Refused n p) = refused n p
+abbrev pub containedMeans : ContainedAnswer → Says
+containedMeans Yes = accepted 1
+containedMeans No = accepted 0
+containedMeans (Refused n p) = refused n p
 
 -- each side of one kind has its sets among the other net's
 unfoldable pub sidesWithin : List ℕ → List ℕ → List ℕ → List ℕ → Bool

@@ -18,9 +18,9 @@ freshNet start end =
     record { start = start; end = end; inputs = blank places; outputs = blank places; «input_len» = set (blank activities) start 1; «output_len» = set (blank activities) end 1 }
 
 -- what each answer says
-abbrev pub freshSaid : FreshAnswer → Says
-freshSaid Made = accepted 0
-freshSaid (Refused n p) = refused n p
+abbrev pub freshMeans : FreshAnswer → Says
+freshMeans Made = accepted 0
+freshMeans (Refused n p) = refused n p
 
 -- what fresh has to say, and the net it has to return
 unfoldable pub freshSays : ℕ → ℕ → Says
@@ -30,5 +30,5 @@ unfoldable pub freshGives : ℕ → ℕ → Net
 freshGives start end = cond (endsOk start end) (freshNet start end) (freshNet 0 1)
 
 pub record FreshDone (start end : ℕ) (r : FreshResult) : Type 0 where
-  pub says : freshSaid (r .answer) ≡ freshSays start end
+  pub says : freshMeans (r .answer) ≡ freshSays start end
   pub gives : r .net ≡ freshGives start end

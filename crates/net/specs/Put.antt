@@ -19,10 +19,10 @@ use Rattle.net.specs.declared.PutAnswer.the-variants.{New, Present, Refu
 use Rattle.net.specs.declared.PutResult.{PutResult}
 
 -- what each answer says: an accepted put's value is the number of new sets
-abbrev pub putSaid : PutAnswer → Says
-putSaid New = accepted 1
-putSaid Present = accepted 0
-putSaid (Refused n p) = refused n p
+abbrev pub putMeans : PutAnswer → Says
+putMeans New = accepted 1
+putMeans Present = accepted 0
+putMeans (Refused n p) = refused n p
 
 -- the empty set on a side that may not hold it, or another on a side that must hold only it
 unfoldable pub misplaced : ℕ → ℕ → ℕ → Bool
@@ -70,7 +70,7 @@ putLengths masks lengths empty a m = cond (grows (sideSays masks lengths empty a
 
 -- what a put on activity a's side leaves: its answer and the two arrays
 pub record SideDone (masks lengths : List ℕ) (empty a m : ℕ) (r : PutAnswer) (masks′ lengths′ : List ℕ) : Type 0 where
-  pub says : putSaid r ≡ sideSays masks lengths empty a m
+  pub says : putMeans r ≡ sideSays masks lengths empty a m
   pub masks-are : masks′ ≡ putMasks masks lengths empty a m
   pub lengths-are : lengths′ ≡ putLengths masks lengths empty a m
 
@@ -78,5 +78,5 @@ unfoldable pub putGives : Net → Side → ℕ → ℕ → Net
 putGives net side a m = cond (grows (putSays net side a m)) (withSet net side a m) net
 
 pub record PutDone (net : Net) (side : Side) (a m : ℕ) (r : PutResult) : Type 0 where
-  pub says : putSaid (r .answer) ≡ putSays net side a m
+  pub says : putMeans (r .answer) ≡ putSays net side a m
   pub gives : r .net ≡ putGives net side a m

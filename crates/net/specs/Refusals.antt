@@ -8,8 +8,8 @@ bad-ends = 1
 abbrev pub disorderly : ℕ
 disorderly = 2
 
-abbrev pub too-long : ℕ
-too-long = 3
+abbrev pub outside-limits : ℕ
+outside-limits = 3
 
 abbrev pub no-activity : ℕ
 no-activity = 4
@@ -44,8 +44,8 @@ line-form = 13
 abbrev pub number-form : ℕ
 number-form = 14
 
-abbrev pub short-buffer : ℕ
-short-buffer = 15
+abbrev pub text-too-long : ℕ
+text-too-long = 15
 
 -- what an answer says: whether the call was accepted; if not the refusal's number and the place returned with it, and if so
 -- the call's value

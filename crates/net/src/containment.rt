@@ -11,11 +11,11 @@ ghost use mathlib.Core.Path.{_≡_};
 ghost use mathlib.Core.Bool.{true};
 ghost use Rattle.net.specs.Sides.{Sides};
 ghost use Rattle.net.specs.Orderly.{orderly};
-ghost use Rattle.net.specs.Contained.{sidesWithin, contained, containedSaid, containedSays};
+ghost use Rattle.net.specs.Contained.{sidesWithin, contained, containedMeans, containedSays};
 
 // Whether the net is contained in the other.
 pub fn contained(net: Net, other: Net) -> ContainedAnswer
-    ensures { λ r. ⌜ containedSaid r ≡ containedSays net other ⌝ }
+    ensures { λ r. ⌜ containedMeans r ≡ containedSays net other ⌝ }
 {
     if !is_orderly(net) {
         return ContainedAnswer::Refused {

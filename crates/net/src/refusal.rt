@@ -4,7 +4,7 @@ pub const BAD_ENDS: u32 = 1;
 
 pub const DISORDERLY: u32 = 2;
 
-pub const TOO_LONG: u32 = 3;
+pub const OUTSIDE_LIMITS: u32 = 3;
 
 pub const NO_ACTIVITY: u32 = 4;
 
@@ -28,4 +28,4 @@ pub const LINE_FORM: u32 = 13;
 
 pub const NUMBER_FORM: u32 = 14;
 
-pub const SHORT_BUFFER: u32 = 15;
+pub const TEXT_TOO_LONG: u32 = 15;

@@ -12,7 +12,7 @@ use Rattle.obligations.proofs.BoolLaws.{false-not-true}
 use Rattle.text.specs.Bytes.{sameBytes}
 use Rattle.text.specs.Lines.{lines}
 use Rattle.text.proofs.ByteLaws.{same-equal}
-use Rattle.net.specs.Refusals.{accepted, too-long, line-form, bad-ends}
+use Rattle.net.specs.Refusals.{accepted, outside-limits, line-form, bad-ends}
 use Rattle.net.specs.Sides.{OnSide}
 use Rattle.net.specs.Orderly.{endsOk, orderly}
 use Rattle.net.specs.Fresh.{freshNet}
@@ -179,7 +179,7 @@ accepted-parts text h = size (leb (length text) netBytes) refl
 
     size : (t : Bool) → leb (length text) netBytes ≡ t → Accepted text
     size true e = from-first (lines text) refl (rw e)
-    size false e = absurd (never too-long 0 (rw e))
+    size false e = absurd (never outside-limits 0 (rw e))
 
 -- ---- a refused reading
 
@@ -196,7 +196,7 @@ rows-refused n net (l ∷ ls) h = go (rowSays net (readRow l) .ok) (rows-refused
 
 pub read-refused : (text : List ℕ) → readNet text .says .ok ≡ false → readNet text .net ≡ freshNet 0 1
 unfolding readNet fromHeader fromStart fromEnd
-read-refused text h = whole (leb (length text) netBytes) (fromHeader (lines text)) too-long 0 (header (lines text)) h
+read-refused text h = whole (leb (length text) netBytes) (fromHeader (lines text)) outside-limits 0 (header (lines text)) h
   where
     Fresh : Reading → Type 0
     Fresh r = r .says .ok ≡ false → r .net ≡ freshNet 0 1

@@ -13,7 +13,7 @@ use Rattle.obligations.proofs.SetLaws.{lt-or-le}
 use Rattle.text.specs.Bytes.{sameBytes}
 use Rattle.text.specs.Lines.{lines, lineEnd, nextLine}
 use Rattle.text.proofs.LineLaws.{lines-step, lines-end, line-none}
-use Rattle.net.specs.Refusals.{too-long, line-form}
+use Rattle.net.specs.Refusals.{outside-limits, line-form}
 use Rattle.net.specs.Orderly.{endsOk}
 use Rattle.net.specs.Fresh.{freshNet, freshGives}
 use Rattle.net.specs.declared.Net.{Net}
@@ -62,7 +62,7 @@ rows-end s i line net h = rw (lines-end s i h)
 
 -- ---- the whole text
 
-pub read-long : (s : List ℕ) → netBytes < length s → readNet s ≡ refusedAt too-long 0
+pub read-long : (s : List ℕ) → netBytes < length s → readNet s ≡ refusedAt outside-limits 0
 unfolding readNet
 read-long s h = rw (lt-leb (length s) netBytes h)
 

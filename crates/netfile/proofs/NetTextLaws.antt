@@ -8,7 +8,7 @@ use native.Mathlib.Omega.{arith}
 use borrow.Author.Tests.{le-leb, lt-leb}
 use lib.ListN.{length}
 use lib.Seq.{sets, sets-eq}
-use Rattle.net.specs.Refusals.{disorderly, short-buffer}
+use Rattle.net.specs.Refusals.{disorderly, text-too-long}
 use Rattle.net.specs.Orderly.{orderly}
 use Rattle.net.specs.declared.Net.{Net}
 use Rattle.netfile.specs.NetFile.{netText, writeSays, writeGives, NetWritten}
@@ -19,7 +19,7 @@ module _ (net : Net) (buf : List ℕ) where
   unfolding writeSays writeGives
   written-disorderly o = record { says = rw o; gives = rw o }
 
-  pub written-short : orderly net ≡ true → length buf < length (netText net) → NetWritten net buf (Refused short-buffer 0) buf
+  pub written-short : orderly net ≡ true → length buf < length (netText net) → NetWritten net buf (Refused text-too-long 0) buf
   unfolding writeSays writeGives
   written-short o h = let e = lt-leb (length (netText net)) (length buf) h in record { says = rw (o, e); gives = rw (o, e) }
 

@@ -9,7 +9,7 @@ use Rattle.obligations.specs.Limits.{activities}
 use Rattle.net.specs.Refusals.{Says}
 use Rattle.net.specs.Sides.{masksOf, lengthsOf, emptyAt}
 use Rattle.net.specs.Orderly.{orderly}
-use Rattle.net.specs.Put.{putSaid, withSides, SideDone}
+use Rattle.net.specs.Put.{putMeans, withSides, SideDone}
 use Rattle.net.specs.declared.Net.{Net}
 use Rattle.net.specs.declared.Side.{Side}
 use Rattle.net.specs.declared.PutAnswer.{PutAnswer}
@@ -22,7 +22,7 @@ use Rattle.netfile.specs.declared.read.RowPut.{RowPut}
 use Rattle.netfile.specs.declared.read.RowPut.the-variants as row-put
 
 pub put-row-done : (net : Net) (side : Side) (a m : ℕ) (r : PutAnswer) (p : RowPut) (masks lengths : List ℕ) → orderly net ≡ true → a < activities
-    → SideDone (masksOf net side) (lengthsOf net side) (emptyAt net side) a m r masks lengths → p ≡ rowPut (putSaid r)
+    → SideDone (masksOf net side) (lengthsOf net side) (emptyAt net side) a m r masks lengths → p ≡ rowPut (putMeans r)
     → PutRow net (row-line.Set side a m) p (withSides net side masks lengths)
 put-row-done net side a m r p masks lengths o h d e =
     let f = put-done net side a m r masks lengths o h d in

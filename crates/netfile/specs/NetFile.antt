@@ -17,7 +17,7 @@ use Rattle.text.specs.declared.decimal.Number.{Number}
 use Rattle.text.specs.declared.decimal.Number.the-variants as number
 use Rattle.text.specs.declared.members.Members.{Members}
 use Rattle.text.specs.declared.members.Members.the-variants as members
-use Rattle.net.specs.Refusals.{Says, accepted, refused, bad-ends, disorderly, too-long, line-form, number-form, short-buffer}
+use Rattle.net.specs.Refusals.{Says, accepted, refused, bad-ends, disorderly, outside-limits, line-form, number-form, text-too-long}
 use Rattle.net.specs.Sides.{setsOn}
 use Rattle.net.specs.Orderly.{orderly}
 use Rattle.net.specs.Fresh.{freshNet}
@@ -148,16 +148,16 @@ fromHeader [] = refusedAt line-form 1
 fromHeader (l ∷ ls) = cond (sameBytes l netHeader) (fromStart ls) (refusedAt line-form 1)
 
 unfoldable pub readNet : List ℕ → Reading
-readNet text = cond (leb (length text) netBytes) (fromHeader (lines text)) (refusedAt too-long 0)
+readNet text = cond (leb (length text) netBytes) (fromHeader (lines text)) (refusedAt outside-limits 0)
 
 -- what each answer says
-abbrev pub netSaid : NetAnswer → Says
-netSaid net-answer.Read = accepted 0
-netSaid (net-answer.Refused n p) = refused n p
+abbrev pub netMeans : NetAnswer → Says
+netMeans net-answer.Read = accepted 0
+netMeans (net-answer.Refused n p) = refused n p
 
 -- an answer and a net are what was to be read
 pub record Reads (d : Reading) (r : NetReading) : Type 0 where
-  pub says : netSaid (r .answer) ≡ d .says
+  pub says : netMeans (r .answer) ≡ d .says
   pub gives : r .net ≡ d .net
 
 -- ---- writing
@@ -197,15 +197,15 @@ unfoldable pub netText : Net → List ℕ
 netText net = unlines (netLines net)
 
 -- what each answer says: an accepted writing's value is the text's length
-abbrev pub writeSaid : WriteAnswer → Says
-writeSaid (write-answer.Written n) = accepted n
-writeSaid (write-answer.Refused n p) = refused n p
+abbrev pub writeMeans : WriteAnswer → Says
+writeMeans (write-answer.Written n) = accepted n
+writeMeans (write-answer.Refused n p) = refused n p
 
 -- what the writer has to say with a buffer of `room` bytes
 unfoldable pub writeSays : Net → ℕ → Says
 writeSays net room =
     cond (orderly net)
-    (cond (leb (length (netText net)) room) (accepted (length (netText net))) (refused short-buffer 0))
+    (cond (leb (length (netText net)) room) (accepted (length (netText net))) (refused text-too-long 0))
     (refused disorderly 0)
 
 -- the buffer after it: the text at its front if the call was accepted, and every other byte as it was
@@ -213,5 +213,5 @@ unfoldable pub writeGives : Net → List ℕ → List ℕ
 writeGives net buf = cond (writeSays net (length buf) .ok) (netText net ++ drop (length (netText net)) buf) buf
 
 pub record NetWritten (net : Net) (buf₀ : List ℕ) (r : WriteAnswer) (buf : List ℕ) : Type 0 where
-  pub says : writeSaid r ≡ writeSays net (length buf₀)
+  pub says : writeMeans r ≡ writeSays net (length buf₀)
   pub gives : buf ≡ writeGives net buf₀

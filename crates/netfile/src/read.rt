@@ -14,7 +14,7 @@ use net::fresh;
 use net::putting::put_side;
 use net::refusal::BAD_ENDS;
 use net::refusal::LINE_FORM;
-use net::refusal::TOO_LONG;
+use net::refusal::OUTSIDE_LIMITS;
 use text::bytes::same_bytes;
 use text::lines::line_end;
 use text::lines::next_line;
@@ -25,7 +25,7 @@ ghost use lib.ListN.{length, drop};
 ghost use Rattle.obligations.specs.Limits.{activities};
 ghost use Rattle.text.specs.Lines.{lines};
 ghost use Rattle.net.specs.Sides.{netOf};
-ghost use Rattle.net.specs.Put.{putSaid};
+ghost use Rattle.net.specs.Put.{putMeans};
 ghost use Rattle.net.specs.Orderly.{orderly};
 ghost use Rattle.netfile.specs.Limits.{netBytes};
 ghost use Rattle.netfile.specs.NetFile.{Reads, refusedAt, readRows, fromEnd, fromStart, readNet};
@@ -36,7 +36,7 @@ pub fn read_net(text: &[u8]) -> NetReading
     ensures { λ r. ⌜ Reads (readNet (now (text .entry))) r ⌝ }
 {
     if NET_BYTES < text.len() {
-        return refused(TOO_LONG, 0);
+        return refused(OUTSIDE_LIMITS, 0);
     }
     let e = line_end(text, 0);
     if !same_bytes(text, 0, e, b"side,activity,members") {
@@ -147,7 +147,7 @@ fn put_row(
 
 // What put's answer says of a row.
 fn row_put(answer: PutAnswer) -> RowPut
-    ensures { λ r. ⌜ r ≡ rowPut (putSaid answer) ⌝ }
+    ensures { λ r. ⌜ r ≡ rowPut (putMeans answer) ⌝ }
 {
     match answer {
         PutAnswer::New => RowPut::Put,

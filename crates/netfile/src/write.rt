@@ -8,7 +8,7 @@ use net::SETS;
 use net::Side;
 use net::is_orderly;
 use net::refusal::DISORDERLY;
-use net::refusal::SHORT_BUFFER;
+use net::refusal::TEXT_TOO_LONG;
 use obligations::ACTIVITIES;
 use text::bytes::write_bytes;
 use text::decimal::write_number;
@@ -40,7 +40,7 @@ pub fn write_net(net: Net, out: &mut [u8]) -> WriteAnswer
     let width = net_width(net);
     if out.len() < width {
         return WriteAnswer::Refused {
-            number: SHORT_BUFFER,
+            number: TEXT_TOO_LONG,
             place: 0,
         };
     }

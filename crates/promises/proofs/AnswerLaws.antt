@@ -10,7 +10,7 @@ use Rattle.obligations.specs.Sequence.{bindings, at, ψ, firstImpossible}
 use Rattle.obligations.proofs.TraceLaws.{shaped-facts, activities-below, shaped-ext}
 use Rattle.net.specs.Orderly.{orderly}
 use Rattle.net.specs.declared.Net.{Net}
-use Rattle.sequences.specs.Limits.{wordsFit, traceFits, withinLimits, traceWithinLimits}
+use Rattle.sequences.specs.Limits.{wordsWithin, traceWithin, withinLimits, traceWithinLimits}
 use Rattle.sequences.specs.Gain.{fits}
 use Rattle.sequences.specs.Learn.{firstWronglyEmpty, learnPositions, learnSays}
 use Rattle.sequences.specs.Follow.{followed, followPositions, followSays}
@@ -51,7 +51,7 @@ module _ (net : Net) (ws : List ℕ) (w : Words ws) where
       let s = bindings ws in
       let call = learn ws in
       unless-link net call is-disorderly (orderly net) _ (clear-from net call) (λ e. whole-none (orderly-none net e)) (λ e. whole-some (orderly-some net e))
-      (λ e₂ c₃. unless-link net call is-too-long (wordsFit ws) _ c₃ (λ e. whole-none (words-none ws e)) (λ e. whole-some (words-some ws e))
+      (λ e₂ c₃. unless-link net call is-too-long (wordsWithin ws) _ c₃ (λ e. whole-none (words-none ws e)) (λ e. whole-some (words-some ws e))
       (λ e₃ c₄. none-link net call has-no-activity (firstNoActivity (length s) (λ i. at s i .activity)) _ c₄ (activity-none (length s) (λ i. at s i .activity)) (activity-some (length s) (λ i. at s i .activity))
       (λ e₄ c₅. positions-answered e₂ e₄ c₅)))
 
@@ -90,7 +90,7 @@ module _ (net : Net) (trace : List ℕ) where
   follow-answered =
       let call = follow trace in
       unless-link net call is-disorderly (orderly net) _ (clear-from net call) (λ e. whole-none (orderly-none net e)) (λ e. whole-some (orderly-some net e))
-      (λ e₂ c₃. unless-link net call is-too-long (traceFits trace) _ c₃ (λ e. whole-none (trace-none trace e)) (λ e. whole-some (trace-some trace e))
+      (λ e₂ c₃. unless-link net call is-too-long (traceWithin trace) _ c₃ (λ e. whole-none (trace-none trace e)) (λ e. whole-some (trace-some trace e))
       (λ e₃ c₄. none-link net call has-no-activity (firstNoActivity (length trace) (λ i. getD trace i 0)) _ c₄ (activity-none (length trace) (λ i. getD trace i 0)) (activity-some (length trace) (λ i. getD trace i 0))
       (λ e₄ c₅. trace-answered e₂ e₄ c₅)))
 

@@ -21,7 +21,7 @@ use Rattle.net.specs.declared.Side.the-variants.{Input, Output}
 use Rattle.net.proofs.OrderlyLaws.{facts-orderly}
 use Rattle.net.proofs.FreshLaws.{fresh-on-side}
 use Rattle.walks.specs.Arcs.{arcs}
-use Rattle.walks.specs.Walks.{InNet, the-start, the-end, with-a-set, in-a-set, OnWalk, Passes}
+use Rattle.walks.specs.Walk.{InNet, the-start, the-end, with-a-set, in-a-set, OnWalk, Passes}
 use Rattle.walks.specs.Check.{checkSays}
 use Rattle.walks.proofs.CheckLaws.{says-none-lost, passes-none-lost}
 use Rattle.promises.proofs.ValidWalkLaws.{Occurs, occurring-on-walk, named-occurs, start-occurs, end-occurs}

@@ -24,7 +24,7 @@ use Rattle.obligations.proofs.SequenceLaws.{possible-at, length-bindings}
 use Rattle.net.specs.Orderly.{orderly, Orderly}
 use Rattle.net.specs.declared.Net.{Net}
 use Rattle.net.proofs.OrderlyLaws.{orderly-facts, facts-orderly}
-use Rattle.sequences.specs.Limits.{wordsFit, traceFits}
+use Rattle.sequences.specs.Limits.{wordsWithin, traceWithin}
 use Rattle.sequences.specs.Gain.{fits, Fits}
 use Rattle.sequences.specs.Learn.{emptyAgree, firstWronglyEmpty}
 use Rattle.sequences.proofs.LimitLaws.{words-uneven, words-many, words-fit}
@@ -59,25 +59,25 @@ orderly-some net e o = false-not-true e (facts-orderly net o)
 
 -- ---- 3
 
-pub words-none : (ws : List ℕ) → wordsFit ws ≡ true → (length ws % 3 ≡ 0 → ⊥) ⊎ (64 < length (bindings ws)) → ⊥
+pub words-none : (ws : List ℕ) → wordsWithin ws ≡ true → (length ws % 3 ≡ 0 → ⊥) ⊎ (64 < length (bindings ws)) → ⊥
 words-none ws e (inl d) = false-not-true (words-uneven ws d) e
 words-none ws e (inr l) = elim (decEq (length ws % 3) 0) [
   | yes q ↦ false-not-true (words-many ws (omega (arith, length-bindings ws (length ws / 3) (omega arith)))) e
   | no d ↦ false-not-true (words-uneven ws d) e
 ]
 
-pub words-some : (ws : List ℕ) → wordsFit ws ≡ false → (length ws % 3 ≡ 0 → ⊥) ⊎ (64 < length (bindings ws))
+pub words-some : (ws : List ℕ) → wordsWithin ws ≡ false → (length ws % 3 ≡ 0 → ⊥) ⊎ (64 < length (bindings ws))
 words-some ws e = elim (decEq (length ws % 3) 0) [
   | yes q ↦ ⊎-elim (λ l. inr (omega (arith, length-bindings ws (length ws / 3) (omega arith)))) (λ l. absurd (false-not-true e (words-fit ws q l))) (lt-or-le 64 (length ws / 3))
   | no d ↦ inl d
 ]
 
-pub trace-none : (trace : List ℕ) → traceFits trace ≡ true → 64 < length trace → ⊥
-unfolding traceFits
+pub trace-none : (trace : List ℕ) → traceWithin trace ≡ true → 64 < length trace → ⊥
+unfolding traceWithin
 trace-none trace e l = omega (arith, leb-true (length trace) 64 e)
 
-pub trace-some : (trace : List ℕ) → traceFits trace ≡ false → 64 < length trace
-unfolding traceFits
+pub trace-some : (trace : List ℕ) → traceWithin trace ≡ false → 64 < length trace
+unfolding traceWithin
 trace-some trace e = leb-false (length trace) 64 e
 
 -- ---- 4

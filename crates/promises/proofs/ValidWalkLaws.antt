@@ -18,7 +18,7 @@ use Rattle.net.specs.declared.Net.{Net}
 use Rattle.net.specs.declared.Side.{Side}
 use Rattle.net.specs.declared.Side.the-variants.{Input, Output}
 use Rattle.walks.specs.Arcs.{Arc}
-use Rattle.walks.specs.Walks.{here, along, Walk, OnWalk}
+use Rattle.walks.specs.Walk.{here, along, Walk, OnWalk}
 use Rattle.walks.proofs.AlongLaws.{along-one, along-join}
 use Rattle.sequences.specs.Gain.{setFor}
 use Rattle.promises.proofs.DueLaws.{Adds, Takes, due-added, added-taken}

@@ -8,16 +8,16 @@ use Rattle.obligations.specs.Sequence.{Binding}
 use Rattle.net.specs.Refusals.{Says}
 use Rattle.net.specs.Sides.{netSize, Masks}
 use Rattle.net.specs.Fresh.{freshSays, freshGives}
-use Rattle.net.specs.Contained.{containedSaid, containedSays}
+use Rattle.net.specs.Contained.{containedMeans, containedSays}
 use Rattle.net.specs.Valid.{Valid}
 use Rattle.net.specs.declared.Net.{Net}
 use Rattle.net.specs.declared.ContainedAnswer.the-variants.{Yes}
 use Rattle.walks.specs.Arcs.{arcs}
-use Rattle.walks.specs.Walks.{Passes}
-use Rattle.walks.specs.Check.{checkSaid, checkSays}
+use Rattle.walks.specs.Walk.{Passes}
+use Rattle.walks.specs.Check.{checkMeans, checkSays}
 use Rattle.walks.specs.declared.CheckAnswer.the-variants.{Passed}
 use Rattle.sequences.specs.Gain.{Gains}
-use Rattle.sequences.specs.Learn.{learnSaid}
+use Rattle.sequences.specs.Learn.{learnMeans}
 use Rattle.sequences.specs.declared.LearnAnswer.the-variants.{Learned, Refused}
 use Rattle.search.specs.Statements.{NoChoice}
 use Rattle.promises.specs.Calls.{Call, sequenceOf, says, gives, grown, answers, learned, AllWords}
@@ -29,8 +29,8 @@ use Rattle.promises.specs.Replays.{SaysFound, SaysNone, NotRefused, Ends
 -- refused exactly in the second, with the number and place listed, and returns the net so far
 pub record Called (net : Net) (call : Call) : Type 0 where
   pub one-or-none : NoneHolds net call ⊎ ((number place : ℕ) × Listed net call number place)
-  pub accepted-exactly : (new : ℕ) → (says net call ≡ learnSaid (Learned new)) ↔ (NoneHolds net call × (new ≡ netSize (gives net call) - netSize net))
-  pub refused-exactly : (number place : ℕ) → (says net call ≡ learnSaid (Refused number place)) ↔ Listed net call number place
+  pub accepted-exactly : (new : ℕ) → (says net call ≡ learnMeans (Learned new)) ↔ (NoneHolds net call × (new ≡ netSize (gives net call) - netSize net))
+  pub refused-exactly : (number place : ℕ) → (says net call ≡ learnMeans (Refused number place)) ↔ Listed net call number place
   pub gains : NoneHolds net call → Gains net (sequenceOf call) (gives net call)
   pub stays : (number place : ℕ) → Listed net call number place → gives net call ≡ net
 
@@ -39,10 +39,10 @@ pub data Runs : Net → List Call → List Says → List (List Binding) → Net 
   none-left : {net : Net} → Runs net [] [] [] net
   accepts : {net after last : Net} {call : Call} {calls : List Call} {new : ℕ} {said : List Says} {ss : List (List Binding)}
       → NoneHolds net call → Gains net (sequenceOf call) after → new ≡ netSize after - netSize net
-      → Runs after calls said ss last → Runs net (call ∷ calls) (learnSaid (Learned new) ∷ said) (sequenceOf call ∷ ss) last
+      → Runs after calls said ss last → Runs net (call ∷ calls) (learnMeans (Learned new) ∷ said) (sequenceOf call ∷ ss) last
   refuses : {net last : Net} {call : Call} {calls : List Call} {number place : ℕ} {said : List Says} {ss : List (List Binding)}
       → Listed net call number place
-      → Runs net calls said ss last → Runs net (call ∷ calls) (learnSaid (Refused number place) ∷ said) ss last
+      → Runs net calls said ss last → Runs net (call ∷ calls) (learnMeans (Refused number place) ∷ said) ss last
 
 -- what is promised of a list of calls, the first of which is given the net `first`
 pub record Promise (first : Net) (calls : List Call) : Type 0 where
@@ -51,12 +51,12 @@ pub record Promise (first : Net) (calls : List Call) : Type 0 where
   pub runs : Runs first calls (answers first calls) (learned first calls) (grown first calls)
   pub each-call : (before after : List Call) (call : Call) → calls ≡ before ++ (call ∷ after) → Called (grown first before) call
   -- 2. if any was accepted, the grown net passes the net check
-  pub grown-passes : (s : List Binding) → List·Memᴰ s (learned first calls) → Passes (grown first calls) × (checkSays (grown first calls) ≡ checkSaid (Passed (arcs (grown first calls))))
+  pub grown-passes : (s : List Binding) → List·Memᴰ s (learned first calls) → Passes (grown first calls) × (checkSays (grown first calls) ≡ checkMeans (Passed (arcs (grown first calls))))
   -- 3. in a net that passes with the same start and end, the grown net is contained exactly when every sequence accepted is valid
   pub contained-exactly : (other : Net) → checkSays other .ok ≡ true → other .start ≡ first .start → other .end ≡ first .end
-      → (containedSays (grown first calls) other ≡ containedSaid Yes) ↔ ((s : List Binding) → List·Memᴰ s (learned first calls) → Valid other s)
+      → (containedSays (grown first calls) other ≡ containedMeans Yes) ↔ ((s : List Binding) → List·Memᴰ s (learned first calls) → Valid other s)
   -- 4. where it is contained, no trace found in it is none there, whatever the two budgets and buffers are
-  pub found-never-none : (other : Net) → containedSays (grown first calls) other ≡ containedSaid Yes
+  pub found-never-none : (other : Net) → containedSays (grown first calls) other ≡ containedMeans Yes
       → (trace : List ℕ) (budget budget′ : ℕ) (out out′ : List ℕ) → SaysFound (grown first calls) trace budget out → SaysNone other trace budget′ out′ → ⊥
   -- 5. in every net, whatever the trace, the budget and the buffer are, a replay that isn't refused says none exactly when its
   -- search ends within the budget and no choice of the net's bindings makes the trace valid. (In a net that doesn't pass it is

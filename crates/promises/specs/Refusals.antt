@@ -10,7 +10,7 @@ use Rattle.obligations.specs.Limits.{activities, positions}
 use Rattle.obligations.specs.State.{count}
 use Rattle.obligations.specs.Trace.{Shaped}
 use Rattle.obligations.specs.Sequence.{Binding, bindings, at, ψ, Possible}
-use Rattle.net.specs.Refusals.{disorderly, too-long, no-activity, wrong-ends, wrongly-empty, not-possible, left-over, full-side}
+use Rattle.net.specs.Refusals.{disorderly, outside-limits, no-activity, wrong-ends, wrongly-empty, not-possible, left-over, full-side}
 use Rattle.net.specs.Orderly.{Orderly}
 use Rattle.net.specs.declared.Net.{Net}
 use Rattle.sequences.specs.Gain.{Fits}
@@ -30,7 +30,7 @@ pub data Refusal : Type 0 where
 
 abbrev pub numberOf : Refusal → ℕ
 numberOf is-disorderly = disorderly
-numberOf is-too-long = too-long
+numberOf is-too-long = outside-limits
 numberOf has-no-activity = no-activity
 numberOf has-wrong-ends = wrong-ends
 numberOf is-wrongly-empty = wrongly-empty

@@ -12,12 +12,12 @@ use lib.Dec.{leb}
 use lib.ListN.{length, length-append}
 use Rattle.text.specs.Bytes.{Wrote}
 use Rattle.text.specs.Lines.{unlines}
-use Rattle.net.specs.Refusals.{refused, too-long}
+use Rattle.net.specs.Refusals.{refused, outside-limits}
 use Rattle.net.specs.declared.Net.{Net}
 use Rattle.walks.specs.Check.{checkSays}
 use Rattle.netfile.specs.NetFile.{readNet}
 use Rattle.logfile.specs.Limits.{logRows}
-use Rattle.logfile.specs.LogFile.{rowSaid}
+use Rattle.logfile.specs.LogFile.{rowMeans}
 use Rattle.logfile.specs.declared.RowAnswer.{RowAnswer}
 use Rattle.logfile.specs.declared.RowAnswer.the-variants.{Row, End, Refused}
 use Rattle.logfile.proofs.RowAnswer as row-answer
@@ -25,7 +25,7 @@ use Rattle.report.specs.Report.{fileBytes, reportRoom, netWord, logWord,
 use Rattle.report.proofs.TextLaws.{refusal-short, rows-short}
 
 -- an answer of another kind is no refusal
-pub not-refused : (a : RowAnswer) → OneOf (0 ∷ 1 ∷ []) (tagOf row-answer.the-type a) → rowSaid a .says .ok ≡ true
+pub not-refused : (a : RowAnswer) → OneOf (0 ∷ 1 ∷ []) (tagOf row-answer.the-type a) → rowMeans a .says .ok ≡ true
 not-refused (Row s n) h = refl
 not-refused End h = refl
 not-refused (Refused n p) h = absurd (⊎-elim (λ e. omega arith) (λ e. omega arith) h)
@@ -33,7 +33,7 @@ not-refused (Refused n p) h = absurd (⊎-elim (λ e. omega arith) (λ e. omega 
 -- ---- the log
 
 module _ (net : Net) (log : List ℕ) where
-  pub log-long : fileBytes < length log → logText net log ≡ refusalText logWord too-long 0
+  pub log-long : fileBytes < length log → logText net log ≡ refusalText logWord outside-limits 0
   unfolding logText
   log-long h = rw (lt-leb (length log) fileBytes h) refl
 
@@ -53,15 +53,15 @@ module _ (net : Net) (log : List ℕ) where
   unfolding logText
   log-short = go (leb (length log) fileBytes) (logSays log .ok)
     where
-      go : (a b : Bool) → length (cond a (cond b (unlines (reportHeader ∷ []) ++ rowsText net log logRows 1) (refusalText logWord (logSays log .refusal) (logSays log .place))) (refusalText logWord too-long 0)) ≤ reportRoom
+      go : (a b : Bool) → length (cond a (cond b (unlines (reportHeader ∷ []) ++ rowsText net log logRows 1) (refusalText logWord (logSays log .refusal) (logSays log .place))) (refusalText logWord outside-limits 0)) ≤ reportRoom
       go true true = omega (arith, length-append (unlines (reportHeader ∷ [])) (rowsText net log logRows 1), rows-room)
       go true false = omega (arith, refusal-short logWord (logSays log .refusal) (logSays log .place))
-      go false b = omega (arith, refusal-short logWord too-long 0)
+      go false b = omega (arith, refusal-short logWord outside-limits 0)
 
 -- ---- the net
 
 module _ (net log : List ℕ) where
-  pub net-long : fileBytes < length net → reportText net log ≡ refusalText netWord too-long 0
+  pub net-long : fileBytes < length net → reportText net log ≡ refusalText netWord outside-limits 0
   unfolding reportText
   net-long h = rw (lt-leb (length net) fileBytes h) refl
 
@@ -85,11 +85,11 @@ module _ (net log : List ℕ) where
   report-short = go (leb (length net) fileBytes) (readNet net .says .ok) (checkSays (readNet net .net) .ok)
     where
       go : (a b c : Bool)
-          → length (cond a (cond b (cond c (logText (readNet net .net) log) (refusalText netWord (checkSays (readNet net .net) .refusal) 0)) (refusalText netWord (readNet net .says .refusal) (readNet net .says .place))) (refusalText netWord too-long 0)) ≤ reportRoom
+          → length (cond a (cond b (cond c (logText (readNet net .net) log) (refusalText netWord (checkSays (readNet net .net) .refusal) 0)) (refusalText netWord (readNet net .says .refusal) (readNet net .says .place))) (refusalText netWord outside-limits 0)) ≤ reportRoom
       go true true true = log-short (readNet net .net) log
       go true true false = omega (arith, refusal-short netWord (checkSays (readNet net .net) .refusal) 0)
       go true false c = omega (arith, refusal-short netWord (readNet net .says .refusal) (readNet net .says .place))
-      go false b c = omega (arith, refusal-short netWord too-long 0)
+      go false b c = omega (arith, refusal-short netWord outside-limits 0)
 
 -- what was written as a report is no longer than that
 pub wrote-short : (net log buf buf′ : List ℕ) (r : ℕ) → Wrote buf 0 (reportText net log) buf′ r → r ≤ reportRoom

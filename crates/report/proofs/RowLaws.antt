@@ -6,7 +6,7 @@ use lib.ListN.{take}
 use Rattle.net.specs.declared.Net.{Net}
 use Rattle.logfile.specs.Limits.{logRows}
 use Rattle.logfile.specs.LogFile.{Reading}
-use Rattle.search.specs.Replay.{ReplaySays, replaySaid, checkedSays, CheckedDone}
+use Rattle.search.specs.Replay.{ReplaySays, replayMeans, checkedSays, CheckedDone}
 use Rattle.search.specs.declared.ReplayAnswer.{ReplayAnswer}
 use Rattle.report.specs.Report.{rowBudget, rowText, readingText, rowsText}
 use Rattle.report.proofs.AnswerLaws.{front-is}
@@ -15,9 +15,9 @@ use Rattle.report.proofs.StandingLaws.{RowGiven}
 
 pub row-line : (net : Net) (log : List ℕ) (r s n : ℕ) (trace trace′ : List ℕ) → RowGiven log r s n trace trace′ → r ≤ logRows
     → (a : ReplayAnswer) (buf buf′ : List ℕ) → CheckedDone net (take n trace′) rowBudget a buf buf′
-    → rowsText net log (logRows + 1 - r) r ≡ rowText r s (replaySaid a) ++ rowsText net log (logRows + 1 - (r + 1)) (r + 1)
+    → rowsText net log (logRows + 1 - r) r ≡ rowText r s (replayMeans a) ++ rowsText net log (logRows + 1 - (r + 1)) (r + 1)
 row-line net log r s n trace trace′ g h a buf buf′ d =
-    let e : replaySaid a ≡ checkedSays net (g .entries) rowBudget = d .says ∙ ap (λ (t : List ℕ). checkedSays net t rowBudget) (front-is (g .entries) trace trace′ n (g .in-front) (g .as-long)) in
+    let e : replayMeans a ≡ checkedSays net (g .entries) rowBudget = d .says ∙ ap (λ (t : List ℕ). checkedSays net t rowBudget) (front-is (g .entries) trace trace′ n (g .in-front) (g .as-long)) in
     rows-step net log r h
     ∙ ap (λ (x : Reading). readingText net r x ++ rowsText net log (logRows + 1 - (r + 1)) (r + 1)) (g .is-row)
     ∙ ap (λ (x : ReplaySays). rowText r s x ++ rowsText net log (logRows + 1 - (r + 1)) (r + 1)) (sym e)

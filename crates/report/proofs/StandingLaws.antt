@@ -6,7 +6,7 @@ use native.Mathlib.Omega.{arith}
 use lib.ListN.{length, drop, length-append, length-drop}
 use Rattle.obligations.specs.Limits.{positions}
 use Rattle.logfile.specs.Limits.{logRows}
-use Rattle.logfile.specs.LogFile.{Reading, row, rowSaid, readingSays, readingLeaves, readRow}
+use Rattle.logfile.specs.LogFile.{Reading, row, rowMeans, readingSays, readingLeaves, readRow}
 use Rattle.logfile.specs.Cursor.{start, readNext, cursorAfter, NextRead, Reached, at-start, one-more}
 use Rattle.logfile.specs.declared.Cursor.{Cursor}
 use Rattle.logfile.specs.declared.NextRow.{NextRow}
@@ -38,12 +38,12 @@ module _ (log : List ℕ) (r : ℕ) (c : Cursor) (trace : List ℕ) (z : Standin
       ap (readNext log c) (z .room) ∙ cursor-reads-next log positions (r - 1) c (z .reached) ∙ ap (λ (k : ℕ). readRow log k positions) e
 
   module _ (x : NextRow) (trace′ : List ℕ) (w : NextRead log c trace x trace′) where
-    pub standing-says : rowSaid (x .answer) ≡ readingSays (readRow log r positions)
+    pub standing-says : rowMeans (x .answer) ≡ readingSays (readRow log r positions)
     standing-says = w .reads .says ∙ ap readingSays standing-reads
 
     pub standing-row : (s n : ℕ) → x .answer ≡ Row s n → RowGiven log r s n trace trace′
     standing-row s n e =
-        let g = given-row (readRow log r positions) s n (ap rowSaid (sym e) ∙ standing-says) in
+        let g = given-row (readRow log r positions) s n (ap rowMeans (sym e) ∙ standing-says) in
         record {
           entries = g .0;
           is-row = g .1;
@@ -71,11 +71,11 @@ module _ (log : List ℕ) (r : ℕ) (c : Cursor) (trace : List ℕ) (z : Standin
         }
 
     -- what isn't a row is said of the whole log
-    pub standing-ends : ((s n : ℕ) → x .answer ≡ Row s n → ⊥) → rowSaid (x .answer) .says ≡ logSays log
+    pub standing-ends : ((s n : ℕ) → x .answer ≡ Row s n → ⊥) → rowMeans (x .answer) .says ≡ logSays log
     unfolding logSays
     standing-ends h =
         ap (λ y. y .says) (standing-says ∙ ap readingSays (sym (later-same log r (logRows + 1) positions (z .low) (z .high) (standing-none h))))
 
-    pub standing-last : logRows < r → rowSaid (x .answer) .says ≡ logSays log
+    pub standing-last : logRows < r → rowMeans (x .answer) .says ≡ logSays log
     unfolding logSays
     standing-last h = let e : r ≡ logRows + 1 = omega (arith, z .high) in ap (λ y. y .says) (standing-says ∙ ap (λ (k : ℕ). readingSays (readRow log k positions)) e)

@@ -9,7 +9,7 @@ use Rattle.obligations.specs.Limits.{positions}
 use Rattle.text.specs.Lines.{unlines}
 use Rattle.text.specs.Fields.{comma, join}
 use Rattle.text.specs.Decimal.{printNumber}
-use Rattle.net.specs.Refusals.{Says, too-long}
+use Rattle.net.specs.Refusals.{Says, outside-limits}
 use Rattle.net.specs.declared.Net.{Net}
 use Rattle.walks.specs.Check.{checkSays}
 use Rattle.netfile.specs.NetFile.{readNet}
@@ -93,7 +93,7 @@ unfoldable pub logText : Net → List ℕ → List ℕ
 logText net log =
     cond (leb (length log) fileBytes)
     (cond (logSays log .ok) (unlines (reportHeader ∷ []) ++ rowsText net log logRows 1) (refusalText logWord (logSays log .refusal) (logSays log .place)))
-    (refusalText logWord too-long 0)
+    (refusalText logWord outside-limits 0)
 
 -- a refusal of the net check has no line
 unfoldable pub reportText : List ℕ → List ℕ → List ℕ
@@ -102,4 +102,4 @@ reportText net log =
     (cond (readNet net .says .ok)
     (cond (checkSays (readNet net .net) .ok) (logText (readNet net .net) log) (refusalText netWord (checkSays (readNet net .net) .refusal) 0))
     (refusalText netWord (readNet net .says .refusal) (readNet net .says .place)))
-    (refusalText netWord too-long 0)
+    (refusalText netWord outside-limits 0)

@@ -8,7 +8,7 @@ use logfile::LOG_ROWS;
 use logfile::RowAnswer;
 use logfile::next_row;
 use net::Net;
-use net::refusal::TOO_LONG;
+use net::refusal::OUTSIDE_LIMITS;
 use netfile::NetAnswer;
 use netfile::read_net;
 use search::replay_lent;
@@ -23,7 +23,7 @@ ghost use lib.ListN.{length};
 ghost use Rattle.text.specs.Bytes.{Wrote};
 ghost use Rattle.net.specs.Orderly.{orderly};
 ghost use Rattle.logfile.specs.Limits.{logRows};
-ghost use Rattle.logfile.specs.LogFile.{rowSaid};
+ghost use Rattle.logfile.specs.LogFile.{rowMeans};
 ghost use Rattle.report.specs.Report.{reportRoom, logSays, rowsText, logText, reportText};
 
 // Each of the two files has at most this many bytes.
@@ -38,7 +38,7 @@ pub fn report(net_text: &[u8], log_text: &[u8], out: &mut [u8]) -> usize
     ensures { λ r. ⌜ Wrote (now (out .entry)) 0 (reportText (now («net_text» .entry)) (now («log_text» .entry))) (now (out .exit)) r ⌝ }
 {
     if FILE_BYTES < net_text.len() {
-        return write_refusal(out, b"net", TOO_LONG, 0);
+        return write_refusal(out, b"net", OUTSIDE_LIMITS, 0);
     }
     let read = read_net(net_text);
     let answer = read.answer;
@@ -59,7 +59,7 @@ fn report_log(net: Net, text: &[u8], out: &mut [u8]) -> usize
     ensures { λ r. ⌜ Wrote (now (out .entry)) 0 (logText net (now (text .entry))) (now (out .exit)) r ⌝ }
 {
     if FILE_BYTES < text.len() {
-        return write_refusal(out, b"log", TOO_LONG, 0);
+        return write_refusal(out, b"log", OUTSIDE_LIMITS, 0);
     }
     let answer = log_end(text);
     if let RowAnswer::Refused { number, place } = answer {
@@ -71,7 +71,7 @@ fn report_log(net: Net, text: &[u8], out: &mut [u8]) -> usize
 
 // What is said of a whole log: what is read after its last row.
 fn log_end(text: &[u8]) -> RowAnswer
-    ensures { λ r. ⌜ rowSaid r .says ≡ logSays (now (text .entry)) ⌝ }
+    ensures { λ r. ⌜ rowMeans r .says ≡ logSays (now (text .entry)) ⌝ }
 {
     let mut trace = [0u32; 64];
     let mut cursor = logfile::start();

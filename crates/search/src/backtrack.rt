@@ -15,7 +15,7 @@ ghost use Rattle.net.specs.Sides.{Sides};
 ghost use Rattle.search.specs.Search.{later, atEnd};
 ghost use Rattle.search.specs.Trace.{TraceFits};
 ghost use Rattle.search.specs.Replay.{endSays};
-ghost use Rattle.search.specs.Backtrack.{searchLent, searchTaken, outcomeSaid, Searched};
+ghost use Rattle.search.specs.Backtrack.{searchLent, searchTaken, outcomeMeans, Searched};
 
 // The search from position `at` on, in the state `due`, with `trials` trials made before: the input sets in their order.
 // An input set that isn't possible fails with every output set, so these pairs are counted at once.
@@ -140,7 +140,7 @@ fn search_outputs<'a>(
 // Past the last position: found if nothing is due any more.
 fn at_end(due: &[u8; 1024], trials: u64) -> Outcome
     requires { ⌜ length (now due) ≡ pairs ⌝ }
-    ensures { λ r. ⌜ outcomeSaid r ≡ endSays (later trials (atEnd (allZero (now (due .entry))))) ⌝ }
+    ensures { λ r. ⌜ outcomeMeans r ≡ endSays (later trials (atEnd (allZero (now (due .entry))))) ⌝ }
 {
     if state::is_zero(due) {
         Outcome::Found { trials: trials }

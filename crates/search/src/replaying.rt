@@ -11,8 +11,8 @@ use obligations::trace;
 ghost use mathlib.Core.Path.{_≡_};
 ghost use Rattle.net.specs.Sides.{netOf, Sides};
 ghost use Rattle.search.specs.Trace.{fits, TraceFits};
-ghost use Rattle.search.specs.Replay.{replaySaid, CheckedDone, ReplayDone};
-ghost use Rattle.search.specs.Backtrack.{outcomeSaid};
+ghost use Rattle.search.specs.Replay.{replayMeans, CheckedDone, ReplayDone};
+ghost use Rattle.search.specs.Backtrack.{outcomeMeans};
 
 // The replay of a trace in a net. Found: the sequence is at the buffer's front. No other answer changes the buffer.
 pub fn replay(net: Net, trace: &[u32], budget: u64, out: &mut [u32]) -> ReplayAnswer
@@ -26,7 +26,7 @@ pub fn replay(net: Net, trace: &[u32], budget: u64, out: &mut [u32]) -> ReplayAn
     }
     if !fits(trace.len(), out.len()) {
         return ReplayAnswer::Refused {
-            number: refusal::TOO_LONG,
+            number: refusal::OUTSIDE_LIMITS,
             place: 0,
         };
     }
@@ -37,8 +37,8 @@ pub fn replay(net: Net, trace: &[u32], budget: u64, out: &mut [u32]) -> ReplayAn
             place: place,
         };
     }
-    let walked = walks::walk_all(net);
-    let lost = walked.lost;
+    let survey = walks::survey_net(net);
+    let lost = survey.lost;
     if lost != 0 {
         return ReplayAnswer::Refused {
             number: refusal::ON_NO_WALK,
@@ -116,7 +116,7 @@ pub fn replay_lent<'a>(
 
 // What the search's outcome is as an answer.
 fn answered(outcome: Outcome) -> ReplayAnswer
-    ensures { λ r. ⌜ replaySaid r ≡ outcomeSaid outcome ⌝ }
+    ensures { λ r. ⌜ replayMeans r ≡ outcomeMeans outcome ⌝ }
 {
     match outcome {
         Outcome::Found { trials: k } => ReplayAnswer::Found { trials: k },

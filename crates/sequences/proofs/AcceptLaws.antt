@@ -25,7 +25,7 @@ use Rattle.net.specs.Put.{misplaced}
 use Rattle.net.specs.declared.Net.{Net}
 use Rattle.net.proofs.OrderlyLaws.{orderly-facts, facts-orderly}
 use Rattle.sequences.specs.Refusing.{unless, noneAt}
-use Rattle.sequences.specs.Limits.{wordsFit, withinLimits}
+use Rattle.sequences.specs.Limits.{wordsWithin, withinLimits}
 use Rattle.sequences.specs.Gain.{fits}
 use Rattle.sequences.specs.Learn.{emptyAgree, firstWronglyEmpty, learnPositions, learnSays}
 use Rattle.sequences.specs.Statements.{Words, Learnable}
@@ -86,15 +86,15 @@ well-placed net s h f i l = (
 pub masks-of : (ws : List ℕ) → Words ws → InputsAreMasks (bindings ws)
 masks-of ws w i l = subst (λ (m : ℕ). m < 2 ^ 32) (sym (held-at ws i l .input-held)) (w (3 * i + 1))
 
-pub words-whole : (ws : List ℕ) → wordsFit ws ≡ true → (n : ℕ) × (length ws ≡ 3 * n) × (n ≤ 64)
-unfolding wordsFit
+pub words-whole : (ws : List ℕ) → wordsWithin ws ≡ true → (n : ℕ) × (length ws ≡ 3 * n) × (n ≤ 64)
+unfolding wordsWithin
 words-whole ws e =
     let d = eqb-true (length ws % 3) 0 (and-left (eqb (length ws % 3) 0) (leb (length ws) 192) e) in
     let m = leb-true (length ws) 192 (and-right (eqb (length ws % 3) 0) (leb (length ws) 192) e) in
     (length ws / 3, omega arith, omega arith)
 
-pub whole-words : (ws : List ℕ) (n : ℕ) → length ws ≡ 3 * n → n ≤ 64 → wordsFit ws ≡ true
-unfolding wordsFit
+pub whole-words : (ws : List ℕ) (n : ℕ) → length ws ≡ 3 * n → n ≤ 64 → wordsWithin ws ≡ true
+unfolding wordsWithin
 whole-words ws n e h = and-both (eq-eqb (length ws % 3) 0 (omega arith)) (le-leb (length ws) 192 (omega arith))
 
 -- ---- what learn accepts
@@ -135,7 +135,7 @@ module _ (net : Net) (ws : List ℕ) (w : Words ws) where
   accepted-learnable e =
       let s = bindings ws in
       let c₂ = unless-passes (orderly net) 2 _ .0 e in
-      let c₃ = unless-passes (wordsFit ws) 3 _ .0 (c₂ .1) in
+      let c₃ = unless-passes (wordsWithin ws) 3 _ .0 (c₂ .1) in
       let c₄ = none-passes (firstNoActivity (length s) (λ i. at s i .activity)) 4 _ .0 (c₃ .1) in
       let c₇ = unless-passes (shaped (net .start) (net .end) (length s) (λ i. at s i .activity)) 7 _ .0 (c₄ .1) in
       let c₉ = none-passes (firstWronglyEmpty s) 9 _ .0 (c₇ .1) in

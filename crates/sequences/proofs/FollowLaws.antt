@@ -24,7 +24,7 @@ use Rattle.net.specs.Refusals.{accepted, full-side}
 use Rattle.net.specs.Orderly.{orderly}
 use Rattle.net.specs.declared.Net.{Net}
 use Rattle.sequences.specs.Refusing.{unless}
-use Rattle.sequences.specs.Limits.{limitsSaid, TraceLimitsOf}
+use Rattle.sequences.specs.Limits.{limitsMeans, TraceLimitsOf}
 use Rattle.sequences.specs.Gain.{gained, fits}
 use Rattle.sequences.specs.Learn.{newSets, GainDone, RefusedWith}
 use Rattle.sequences.specs.Follow.{followedFrom, followed, nextSet, followPositions, followSays, followGives, TraceDone, FollowDone}
@@ -146,11 +146,11 @@ module _ (net : Net) (t : List ℕ) {r : LearnResult} where
     pub follow-limits : (number place : ℕ) → l ≡ Beyond number place → RefusedWith net number place r → FollowDone net t r
     unfolding followSays followGives
     follow-limits number place e w =
-        let q = sym (d .says (followPositions net t)) ∙ ap (λ (k : Limited). limitsSaid k (followPositions net t)) e in
+        let q = sym (d .says (followPositions net t)) ∙ ap (λ (k : Limited). limitsMeans k (followPositions net t)) e in
         record { says = rw (o, q) (w .says); gives = rw (o, q) (w .gives) }
 
     pub follow-done : (n : ℕ) → l ≡ Within n → TraceDone net t r → FollowDone net t r
     unfolding followSays followGives
     follow-done n e w =
-        let q = sym (d .says (followPositions net t)) ∙ ap (λ (k : Limited). limitsSaid k (followPositions net t)) e in
+        let q = sym (d .says (followPositions net t)) ∙ ap (λ (k : Limited). limitsMeans k (followPositions net t)) e in
         record { says = rw (o, q) (w .says); gives = rw (o, q) (w .gives) }

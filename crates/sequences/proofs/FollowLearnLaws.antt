@@ -23,7 +23,7 @@ use Rattle.net.specs.Refusals.{Says, accepted, refused}
 use Rattle.net.specs.Orderly.{orderly}
 use Rattle.net.specs.declared.Net.{Net}
 use Rattle.sequences.specs.Refusing.{unless, noneAt}
-use Rattle.sequences.specs.Limits.{wordsFit, traceFits, withinLimits, traceWithinLimits}
+use Rattle.sequences.specs.Limits.{wordsWithin, traceWithin, withinLimits, traceWithinLimits}
 use Rattle.sequences.specs.Gain.{fits}
 use Rattle.sequences.specs.Learn.{firstWronglyEmpty, newSets, learnPositions, learnSays, learnGives}
 use Rattle.sequences.specs.Follow.{followedFrom, followed, followPositions, followSays, followGives}
@@ -102,8 +102,8 @@ same-activities t =
     ap (λ (k : ℕ). firstNoActivity k (λ i. at (followed t) i .activity)) (length-followed 0 t)
     ∙ no-activity-ext (length t) (λ i. at (followed t) i .activity) (λ i. getD t i 0) (followed-activity 0 t)
 
-same-limits : (t : List ℕ) → wordsFit (words (followed t)) ≡ traceFits t
-unfolding wordsFit traceFits
+same-limits : (t : List ℕ) → wordsWithin (words (followed t)) ≡ traceWithin t
+unfolding wordsWithin traceWithin
 same-limits t =
     let l : length (words (followed t)) ≡ 3 * length t = length-words (followed t) ∙ ap (λ (k : ℕ). 3 * k) (length-followed 0 t) in
     rw (l, eq-eqb (3 * length t % 3) 0 (omega arith))
@@ -140,7 +140,7 @@ same-positions net t e =
 
 pub follow-says : (net : Net) (t : List ℕ) → followSays net t ≡ learnSays net (words (followed t))
 unfolding followSays learnSays traceWithinLimits withinLimits
-follow-says net t = rw (bindings-words (followed t), same-limits t, same-activities t) (ap (λ (r : Says). unless (orderly net) 2 (unless (traceFits t) 3 r)) link)
+follow-says net t = rw (bindings-words (followed t), same-limits t, same-activities t) (ap (λ (r : Says). unless (orderly net) 2 (unless (traceWithin t) 3 r)) link)
   where
     link : noneAt (firstNoActivity (length t) (λ i. getD t i 0)) 4 (followPositions net t) ≡ noneAt (firstNoActivity (length t) (λ i. getD t i 0)) 4 (learnPositions net (followed t))
     link = elim (decEq (firstNoActivity (length t) (λ i. getD t i 0)) 0) [

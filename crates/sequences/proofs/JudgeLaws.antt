@@ -26,7 +26,7 @@ use Rattle.net.specs.Orderly.{orderly}
 use Rattle.net.specs.declared.Net.{Net}
 use Rattle.net.specs.declared.Side.the-variants.{Input, Output}
 use Rattle.walks.specs.Check.{lost, lowest}
-use Rattle.sequences.specs.Limits.{limitsSaid, LimitsOf}
+use Rattle.sequences.specs.Limits.{limitsMeans, LimitsOf}
 use Rattle.sequences.specs.Run.{Positions, largestTotal, outputSizes, ran}
 use Rattle.sequences.specs.Judge.{onSideAt, firstMissing, onWalks, runSays, judgePositions, judgeSays, PeakOf, RunJudged, PositionsJudged, JudgeDone, earlier}
 use Rattle.sequences.specs.declared.JudgeAnswer.{JudgeAnswer}
@@ -205,11 +205,11 @@ module _ (net : Net) (ws : List ℕ) where
     pub judged-limits : (number place : ℕ) → l ≡ Beyond number place → JudgeDone net ws (Refused number place)
     unfolding judgeSays
     judged-limits number place e =
-        let q = sym (d .says (judgePositions net (bindings ws))) ∙ ap (λ (k : Limited). limitsSaid k (judgePositions net (bindings ws))) e in
+        let q = sym (d .says (judgePositions net (bindings ws))) ∙ ap (λ (k : Limited). limitsMeans k (judgePositions net (bindings ws))) e in
         record { says = rw (o, q); peak-of = refused-peak (bindings ws) number place }
 
     pub judged-positions : (n : ℕ) → l ≡ Within n → {r : JudgeAnswer} → PositionsJudged net (bindings ws) r → JudgeDone net ws r
     unfolding judgeSays
     judged-positions n e j =
-        let q = sym (d .says (judgePositions net (bindings ws))) ∙ ap (λ (k : Limited). limitsSaid k (judgePositions net (bindings ws))) e in
+        let q = sym (d .says (judgePositions net (bindings ws))) ∙ ap (λ (k : Limited). limitsMeans k (judgePositions net (bindings ws))) e in
         record { says = rw (o, q) (j .says); peak-of = j .peak-of }

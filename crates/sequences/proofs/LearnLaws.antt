@@ -16,7 +16,7 @@ use Rattle.net.specs.Orderly.{orderly}
 use Rattle.net.specs.declared.Net.{Net}
 use Rattle.sequences.specs.Refusing.{unless}
 use Rattle.sequences.specs.Run.{ran}
-use Rattle.sequences.specs.Limits.{limitsSaid, LimitsOf}
+use Rattle.sequences.specs.Limits.{limitsMeans, LimitsOf}
 use Rattle.sequences.specs.Gain.{gained, fits}
 use Rattle.sequences.specs.Learn.{emptyAgree, firstWronglyEmpty, newSets, learnPositions, learnSays, learnGives, GainDone, RefusedWith, PositionsDone, LearnDone}
 use Rattle.sequences.specs.declared.Limited.{Limited}
@@ -92,11 +92,11 @@ module _ (net : Net) (ws : List ℕ) {r : LearnResult} where
     pub refused-limits : (number place : ℕ) → l ≡ Beyond number place → RefusedWith net number place r → LearnDone net ws r
     unfolding learnSays learnGives
     refused-limits number place e w =
-        let q = sym (d .says (learnPositions net (bindings ws))) ∙ ap (λ (k : Limited). limitsSaid k (learnPositions net (bindings ws))) e in
+        let q = sym (d .says (learnPositions net (bindings ws))) ∙ ap (λ (k : Limited). limitsMeans k (learnPositions net (bindings ws))) e in
         record { says = rw (o, q) (w .says); gives = rw (o, q) (w .gives) }
 
     pub learned-positions : (n : ℕ) → l ≡ Within n → PositionsDone net (bindings ws) r → LearnDone net ws r
     unfolding learnSays learnGives
     learned-positions n e w =
-        let q = sym (d .says (learnPositions net (bindings ws))) ∙ ap (λ (k : Limited). limitsSaid k (learnPositions net (bindings ws))) e in
+        let q = sym (d .says (learnPositions net (bindings ws))) ∙ ap (λ (k : Limited). limitsMeans k (learnPositions net (bindings ws))) e in
         record { says = rw (o, q) (w .says); gives = rw (o, q) (w .gives) }

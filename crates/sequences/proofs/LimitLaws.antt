@@ -13,7 +13,7 @@ use Rattle.obligations.specs.Sequence.{bindings, at}
 use Rattle.obligations.proofs.TraceLaws.{no-activity-ext, activities-below}
 use Rattle.obligations.proofs.SequenceLaws.{held-at, length-bindings}
 use Rattle.sequences.specs.Run.{Positions, TracePositions}
-use Rattle.sequences.specs.Limits.{wordsFit, traceFits, withinLimits, traceWithinLimits, LimitsOf, TraceLimitsOf}
+use Rattle.sequences.specs.Limits.{wordsWithin, traceWithin, withinLimits, traceWithinLimits, LimitsOf, TraceLimitsOf}
 use Rattle.sequences.specs.declared.Limited.the-variants.{Within, Beyond}
 
 beyond-not-within : {k p n : ℕ} {A : Type 0} → Beyond k p ≡ Within n → A
@@ -21,23 +21,23 @@ beyond-not-within e = absurd (let z : _≡_ {A = ℕ} 0 1 = cc in omega arith)
 
 -- ---- sequences
 
-pub words-uneven : (ws : List ℕ) → (length ws % 3 ≡ 0 → ⊥) → wordsFit ws ≡ false
-unfolding wordsFit
+pub words-uneven : (ws : List ℕ) → (length ws % 3 ≡ 0 → ⊥) → wordsWithin ws ≡ false
+unfolding wordsWithin
 words-uneven ws ne = rw (ne-eqb (length ws % 3) 0 ne)
 
-pub words-many : (ws : List ℕ) → 64 < length ws / 3 → wordsFit ws ≡ false
-unfolding wordsFit
+pub words-many : (ws : List ℕ) → 64 < length ws / 3 → wordsWithin ws ≡ false
+unfolding wordsWithin
 words-many ws h = ap (λ (t : Bool). eqb (length ws % 3) 0 && t) (lt-leb (length ws) 192 (omega arith)) ∙ and-false (eqb (length ws % 3) 0)
 
-pub words-fit : (ws : List ℕ) → length ws % 3 ≡ 0 → length ws / 3 ≤ 64 → wordsFit ws ≡ true
-unfolding wordsFit
+pub words-fit : (ws : List ℕ) → length ws % 3 ≡ 0 → length ws / 3 ≤ 64 → wordsWithin ws ≡ true
+unfolding wordsWithin
 words-fit ws e h = rw (eq-eqb (length ws % 3) 0 e, le-leb (length ws) 192 (omega arith))
 
-pub limits-too-long : (ws : List ℕ) → wordsFit ws ≡ false → LimitsOf ws (Beyond 3 0)
+pub limits-too-long : (ws : List ℕ) → wordsWithin ws ≡ false → LimitsOf ws (Beyond 3 0)
 unfolding withinLimits
 limits-too-long ws f = record { says = λ rest. rw f; positions-are = λ n e. beyond-not-within e }
 
-module _ (ws : List ℕ) (n : ℕ) (w : wordsFit ws ≡ true) (l : length ws ≡ 3 * n) where
+module _ (ws : List ℕ) (n : ℕ) (w : wordsWithin ws ≡ true) (l : length ws ≡ 3 * n) where
   -- the code's test on words is the definition's on bindings
   first-same : firstNoActivity (length (bindings ws)) (λ i. at (bindings ws) i .activity) ≡ firstNoActivity n (λ i. getD ws (3 * i) 0)
   first-same =
@@ -61,7 +61,7 @@ module _ (ws : List ℕ) (n : ℕ) (w : wordsFit ws ≡ true) (l : length ws ≡
 -- ---- traces
 
 pub trace-too-long : (trace : List ℕ) → 64 < length trace → TraceLimitsOf trace (Beyond 3 0)
-unfolding traceWithinLimits traceFits
+unfolding traceWithinLimits traceWithin
 trace-too-long trace h = record { says = λ rest. rw (lt-leb (length trace) 64 h); positions-are = λ n e. beyond-not-within e }
 
 module _ (trace : List ℕ) (h : length trace ≤ 64) where
@@ -69,14 +69,14 @@ module _ (trace : List ℕ) (h : length trace ≤ 64) where
   one-apart = no-activity-ext (length trace) (λ i. getD trace i 0) (λ i. getD trace (1 * i) 0) (λ i l. ap (λ (k : ℕ). getD trace k 0) (omega arith))
 
   pub trace-no-activity : (place : ℕ) → place ≡ firstNoActivity (length trace) (λ i. getD trace (1 * i) 0) → (place ≡ 0 → ⊥) → TraceLimitsOf trace (Beyond 4 place)
-  unfolding traceWithinLimits traceFits
+  unfolding traceWithinLimits traceWithin
   trace-no-activity place e ne = record {
     says = λ rest. rw (le-leb (length trace) 64 h, one-apart, ← e, ne-eqb place 0 ne);
     positions-are = λ k q. beyond-not-within q;
   }
 
   pub trace-within : firstNoActivity (length trace) (λ i. getD trace (1 * i) 0) ≡ 0 → TraceLimitsOf trace (Within (length trace))
-  unfolding traceWithinLimits traceFits
+  unfolding traceWithinLimits traceWithin
   trace-within e = record {
     says = λ rest. rw (le-leb (length trace) 64 h, one-apart, e);
     positions-are = λ k q. let z : length trace ≡ k = cc in subst (TracePositions trace) z (record { whole = refl; few = h; activities-only = activities-below (length trace) (λ i. getD trace i 0) (one-apart ∙ e) });

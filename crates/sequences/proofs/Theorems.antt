@@ -13,7 +13,7 @@ use Rattle.net.specs.Orderly.{orderly}
 use Rattle.net.specs.declared.Net.{Net}
 use Rattle.net.specs.declared.Side.the-variants.{Input, Output}
 use Rattle.net.proofs.OrderlyLaws.{orderly-facts}
-use Rattle.sequences.specs.Limits.{wordsFit, withinLimits}
+use Rattle.sequences.specs.Limits.{wordsWithin, withinLimits}
 use Rattle.sequences.specs.Gain.{gained, fits}
 use Rattle.sequences.specs.Learn.{firstWronglyEmpty, learnPositions, learnSays, learnGives}
 use Rattle.sequences.specs.Statements.{LearnAccepts, LearnHolds, LearnValid, FollowLearns, JudgeAccepts}
@@ -36,7 +36,7 @@ unfolding learnSays withinLimits learnPositions
 accepted-parts net ws e =
     let s = bindings ws in
     let c₂ = unless-passes (orderly net) 2 _ .0 e in
-    let c₃ = unless-passes (wordsFit ws) 3 _ .0 (c₂ .1) in
+    let c₃ = unless-passes (wordsWithin ws) 3 _ .0 (c₂ .1) in
     let c₄ = none-passes (firstNoActivity (length s) (λ i. at s i .activity)) 4 _ .0 (c₃ .1) in
     let c₇ = unless-passes (shaped (net .start) (net .end) (length s) (λ i. at s i .activity)) 7 _ .0 (c₄ .1) in
     let c₉ = none-passes (firstWronglyEmpty s) 9 _ .0 (c₇ .1) in

@@ -26,9 +26,9 @@ use Rattle.net.proofs.ListLaws.{listed-one}
 use Rattle.net.proofs.OrderlyLaws.{orderly-facts, facts-orderly}
 use Rattle.walks.specs.Check.{lost, lowest}
 use Rattle.walks.proofs.CheckLaws.{none-lost-passes, passes-none-lost}
-use Rattle.sequences.specs.Limits.{wordsFit, withinLimits}
+use Rattle.sequences.specs.Limits.{wordsWithin, withinLimits}
 use Rattle.sequences.specs.Judge.{onSideAt, firstMissing, onWalks, runSays, judgePositions, judgeSays}
-use Rattle.sequences.specs.Statements.{Words, Acceptable}
+use Rattle.sequences.specs.Statements.{Words, Judgeable}
 use Rattle.sequences.proofs.AcceptLaws.{unless-passes, none-passes, EmptyWhere, masks-of, words-whole, whole-words, tests-well-formed, formed-activities, formed-shaped, formed-possible, formed-zero}
 
 -- ---- refusals 6 and 8
@@ -80,12 +80,12 @@ sides-empty net s o a h f = record {
 -- ---- what judge accepts
 
 module _ (net : Net) (ws : List ℕ) (k : Masks net) (w : Words ws) where
-  pub accepted-acceptable : judgeSays net ws .ok ≡ true → Acceptable net ws
+  pub accepted-acceptable : judgeSays net ws .ok ≡ true → Judgeable net ws
   unfolding judgeSays withinLimits judgePositions runSays
   accepted-acceptable e =
       let s = bindings ws in
       let c₂ = unless-passes (orderly net) 2 _ .0 e in
-      let c₃ = unless-passes (wordsFit ws) 3 _ .0 (c₂ .1) in
+      let c₃ = unless-passes (wordsWithin ws) 3 _ .0 (c₂ .1) in
       let c₄ = none-passes (firstNoActivity (length s) (λ i. at s i .activity)) 4 _ .0 (c₃ .1) in
       let c₆ = walks-pass net _ .0 (c₄ .1) in
       let c₇ = unless-passes (shaped (net .start) (net .end) (length s) (λ i. at s i .activity)) 7 _ .0 (c₆ .1) in
@@ -109,7 +109,7 @@ module _ (net : Net) (ws : List ℕ) (k : Masks net) (w : Words ws) where
         };
       }
 
-  pub acceptable-accepted : Acceptable net ws → judgeSays net ws .ok ≡ true
+  pub acceptable-accepted : Judgeable net ws → judgeSays net ws .ok ≡ true
   unfolding judgeSays withinLimits judgePositions onWalks runSays
   acceptable-accepted l =
       let s = bindings ws in

@@ -14,7 +14,7 @@ use Rattle.net.specs.declared.Net.{Net}
 use Rattle.sequences.specs.Refusing.{unless}
 use Rattle.sequences.specs.Limits.{traceWithinLimits}
 use Rattle.sequences.specs.Gain.{gained, fits}
-use Rattle.sequences.specs.Learn.{learnSaid, newSets}
+use Rattle.sequences.specs.Learn.{learnMeans, newSets}
 use Rattle.sequences.specs.declared.LearnResult.{LearnResult}
 
 -- the sequence of a trace: X is the activity before, empty at the first, and Y the activity after, empty at the last;
@@ -46,9 +46,9 @@ unfoldable pub followGives : Net → List ℕ → Net
 followGives net trace = cond (followSays net trace .ok) (gained net (followed trace)) net
 
 pub record TraceDone (net : Net) (trace : List ℕ) (r : LearnResult) : Type 0 where
-  pub says : learnSaid (r .answer) ≡ followPositions net trace
+  pub says : learnMeans (r .answer) ≡ followPositions net trace
   pub gives : r .net ≡ cond (followPositions net trace .ok) (gained net (followed trace)) net
 
 pub record FollowDone (net : Net) (trace : List ℕ) (r : LearnResult) : Type 0 where
-  pub says : learnSaid (r .answer) ≡ followSays net trace
+  pub says : learnMeans (r .answer) ≡ followSays net trace
   pub gives : r .net ≡ followGives net trace

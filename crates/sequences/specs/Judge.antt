@@ -25,9 +25,9 @@ use Rattle.sequences.specs.declared.JudgeAnswer.{JudgeAnswer}
 use Rattle.sequences.specs.declared.JudgeAnswer.the-variants.{Judged, Refused}
 
 -- what each answer says; the peak is left free, within bounds, and isn't part of it
-abbrev pub judgeSaid : JudgeAnswer → Says
-judgeSaid (Judged peak) = accepted 0
-judgeSaid (Refused n p) = refused n p
+abbrev pub judgeMeans : JudgeAnswer → Says
+judgeMeans (Judged peak) = accepted 0
+judgeMeans (Refused n p) = refused n p
 
 -- the set that the binding after i others has for a kind of side is on its activity's side
 unfoldable pub onSideAt : Net → Side → List Binding → ℕ → Bool
@@ -63,15 +63,15 @@ pub record PeakOf (s : List Binding) (r : JudgeAnswer) : Type 0 where
   pub at-most : (peak : ℕ) → r ≡ Judged peak → peak ≤ outputSizes s
 
 pub record JudgeDone (net : Net) (ws : List ℕ) (r : JudgeAnswer) : Type 0 where
-  pub says : judgeSaid r ≡ judgeSays net ws
+  pub says : judgeMeans r ≡ judgeSays net ws
   pub peak-of : PeakOf (bindings ws) r
 
 pub record PositionsJudged (net : Net) (s : List Binding) (r : JudgeAnswer) : Type 0 where
-  pub says : judgeSaid r ≡ judgePositions net s
+  pub says : judgeMeans r ≡ judgePositions net s
   pub peak-of : PeakOf s r
 
 pub record RunJudged (s : List Binding) (r : JudgeAnswer) : Type 0 where
-  pub says : judgeSaid r ≡ runSays s
+  pub says : judgeMeans r ≡ runSays s
   pub peak-of : PeakOf s r
 
 -- the earlier of two positions, where 0 is none

@@ -21,9 +21,9 @@ use Rattle.sequences.specs.declared.LearnAnswer.the-variants.{Learned, R
 use Rattle.sequences.specs.declared.LearnResult.{LearnResult}
 
 -- what each answer of learn and follow says: an accepted one's value is the number of new sets
-abbrev pub learnSaid : LearnAnswer → Says
-learnSaid (Learned new) = accepted new
-learnSaid (Refused n p) = refused n p
+abbrev pub learnMeans : LearnAnswer → Says
+learnMeans (Learned new) = accepted new
+learnMeans (Refused n p) = refused n p
 
 -- X is empty at the first position only and Y at the last only: the first position where that fails, or 0
 unfoldable pub emptyAgree : List Binding → ℕ → Bool
@@ -38,12 +38,12 @@ newSets net s = netSize (gained net s) - netSize net
 
 -- refusal 12 alone, for a sequence that no other refusal holds of
 pub record GainDone (net : Net) (s : List Binding) (r : LearnResult) : Type 0 where
-  pub says : learnSaid (r .answer) ≡ unless (fits net s) full-side (accepted (newSets net s))
+  pub says : learnMeans (r .answer) ≡ unless (fits net s) full-side (accepted (newSets net s))
   pub gives : r .net ≡ cond (fits net s) (gained net s) net
 
 -- a refused call: the refusal's number and place, and the net as it was given
 pub record RefusedWith (net : Net) (number place : ℕ) (r : LearnResult) : Type 0 where
-  pub says : learnSaid (r .answer) ≡ refused number place
+  pub says : learnMeans (r .answer) ≡ refused number place
   pub gives : r .net ≡ net
 
 -- refusals 7, 9, 10, 11 and 12, of a sequence within the limits
@@ -65,9 +65,9 @@ unfoldable pub learnGives : Net → List ℕ → Net
 learnGives net ws = cond (learnSays net ws .ok) (gained net (bindings ws)) net
 
 pub record PositionsDone (net : Net) (s : List Binding) (r : LearnResult) : Type 0 where
-  pub says : learnSaid (r .answer) ≡ learnPositions net s
+  pub says : learnMeans (r .answer) ≡ learnPositions net s
   pub gives : r .net ≡ cond (learnPositions net s .ok) (gained net s) net
 
 pub record LearnDone (net : Net) (ws : List ℕ) (r : LearnResult) : Type 0 where
-  pub says : learnSaid (r .answer) ≡ learnSays net ws
+  pub says : learnMeans (r .answer) ≡ learnSays net ws
   pub gives : r .net ≡ learnGives net ws

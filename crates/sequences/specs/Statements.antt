@@ -13,7 +13,7 @@ use Rattle.net.specs.Sides.{Masks}
 use Rattle.net.specs.Orderly.{Orderly}
 use Rattle.net.specs.Valid.{Valid}
 use Rattle.net.specs.declared.Net.{Net}
-use Rattle.walks.specs.Walks.{Passes}
+use Rattle.walks.specs.Walk.{Passes}
 use Rattle.sequences.specs.Gain.{Fits, Gains}
 use Rattle.sequences.specs.Learn.{learnSays, learnGives}
 use Rattle.sequences.specs.Judge.{judgeSays}
@@ -53,7 +53,7 @@ abbrev pub FollowLearns : Type 0
 FollowLearns = (net : Net) (trace : List ℕ) → FollowIsLearn net trace
 
 -- what judge accepts: a net that passes, and words that are a sequence within the limits and valid in it
-pub record Acceptable (net : Net) (ws : List ℕ) : Type 0 where
+pub record Judgeable (net : Net) (ws : List ℕ) : Type 0 where
   pub passes : Passes net
   pub count : ℕ
   pub whole : length ws ≡ 3 * count
@@ -61,4 +61,4 @@ pub record Acceptable (net : Net) (ws : List ℕ) : Type 0 where
   pub valid : Valid net (bindings ws)
 
 abbrev pub JudgeAccepts : Type 0
-JudgeAccepts = (net : Net) (ws : List ℕ) → Masks net → Words ws → (judgeSays net ws .ok ≡ true) ↔ Acceptable net ws
+JudgeAccepts = (net : Net) (ws : List ℕ) → Masks net → Words ws → (judgeSays net ws .ok ≡ true) ↔ Judgeable net ws

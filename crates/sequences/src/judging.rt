@@ -10,7 +10,7 @@ use net::SETS;
 use net::is_orderly;
 use net::refusal;
 use obligations::trace::is_shaped;
-use walks::walk_all;
+use walks::survey_net;
 ghost use mathlib.Core.Path.{_≡_};
 ghost use mathlib.Core.Bool.{true};
 ghost use Prim.Native.Nat.{_+_, _*_, _<_};
@@ -49,8 +49,8 @@ fn judge_positions(net: Net, words: &[u32], n: usize) -> JudgeAnswer
     requires { ⌜ Positions (now words) n ⌝ }
     ensures { λ r. ⌜ PositionsJudged net (bindings (now (words .entry))) r ⌝ }
 {
-    let walked = walk_all(net);
-    let lost = walked.lost;
+    let survey = survey_net(net);
+    let lost = survey.lost;
     if lost != 0 {
         return JudgeAnswer::Refused {
             number: refusal::ON_NO_WALK,

@@ -12,11 +12,11 @@ pub fn sequence_limits(words: &[u32]) -> Limited
 {
     let size = words.len();
     if size % 3 != 0 {
-        return Limited::Beyond(refusal::TOO_LONG, 0);
+        return Limited::Beyond(refusal::OUTSIDE_LIMITS, 0);
     }
     let n = size / 3;
     if POSITIONS < n {
-        return Limited::Beyond(refusal::TOO_LONG, 0);
+        return Limited::Beyond(refusal::OUTSIDE_LIMITS, 0);
     }
     let place = first_no_activity(words, 3, n);
     if place != 0 {
@@ -31,7 +31,7 @@ pub fn trace_limits(trace: &[u32]) -> Limited
 {
     let n = trace.len();
     if POSITIONS < n {
-        return Limited::Beyond(refusal::TOO_LONG, 0);
+        return Limited::Beyond(refusal::OUTSIDE_LIMITS, 0);
     }
     let place = first_no_activity(trace, 1, n);
     if place != 0 {

@@ -1,6 +1,6 @@
 -- Laws of steps one after the other: they join, go over to another relation with the steps, and turn round. Assumes nothing.
 use Prim.Native.Nat.{ℕ}
-use Rattle.walks.specs.Walks.{Along, here, along}
+use Rattle.walks.specs.Walk.{Along, here, along}
 
 pub along-one : {Step : ℕ → ℕ → Type 0} {a b : ℕ} → Step a b → Along Step a b
 along-one s = along s here

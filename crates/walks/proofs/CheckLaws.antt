@@ -22,7 +22,7 @@ use Rattle.net.specs.declared.Net.{Net}
 use Rattle.net.proofs.SideLaws.{set-is-mask}
 use Rattle.net.proofs.OrderlyLaws.{orderly-facts, on-side-activity}
 use Rattle.walks.specs.Arcs.{arcs}
-use Rattle.walks.specs.Walks.{InNet, the-start, the-end, with-a-set, in-a-set, OnWalk, Passes}
+use Rattle.walks.specs.Walk.{InNet, the-start, the-end, with-a-set, in-a-set, OnWalk, Passes}
 use Rattle.walks.specs.Rows.{reach}
 use Rattle.walks.specs.Check.{inNet, successors, predecessors, outside, lost, lowest, lostSays, checkSays}
 use Rattle.walks.specs.Statements.{LowestLost}

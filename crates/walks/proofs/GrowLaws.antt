@@ -8,7 +8,7 @@ use Rattle.net.specs.declared.Side.{Side}
 use Rattle.net.specs.declared.Side.the-variants.{Input, Output}
 use Rattle.net.proofs.OrderlyLaws.{facts-orderly, on-side-activity}
 use Rattle.walks.specs.Arcs.{Names, Arc}
-use Rattle.walks.specs.Walks.{Walk, InNet, the-start, the-end, with-a-set, in-a-set, OnWalk}
+use Rattle.walks.specs.Walk.{Walk, InNet, the-start, the-end, with-a-set, in-a-set, OnWalk}
 use Rattle.walks.proofs.AlongLaws.{along-map}
 use Rattle.walks.proofs.WalkLaws.{names-activity}
 

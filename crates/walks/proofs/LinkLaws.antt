@@ -21,8 +21,8 @@ use Rattle.walks.specs.Below.{anyBelow, those}
 use Rattle.walks.specs.Arcs.{named, names, arc, arcs}
 use Rattle.walks.specs.Rows.{has, rows, reach}
 use Rattle.walks.specs.Check.{onSides, inNet, successors, predecessors, outside, lost}
-use Rattle.walks.specs.Links.{unionOf, namedRows, linked, links, filled, sizes, RowWalks, Walks}
-use Rattle.walks.specs.declared.Walked.{Walked}
+use Rattle.walks.specs.Links.{unionOf, namedRows, linked, links, filled, sizes, RowSurvey, NetSurvey}
+use Rattle.walks.specs.declared.Survey.{Survey}
 use Rattle.walks.proofs.BelowLaws.{any-true, true-any, any-ext, member-those-at, those-are, those-lt, sum-ext, size-those}
 use Rattle.walks.proofs.RowLaws.{rows-long, rows-at, rows-all, rows-ext, has-row, member-union-of, sizes-rows}
 use Rattle.walks.proofs.ReachLaws.{Small, reach-lt}
@@ -148,7 +148,7 @@ module _ (net : Net) where
   unfolding Small predecessors
   predecessors-small = rows-all (λ m. m < 2 ^ 32) (λ q. those (λ p. arc net p q)) (lit< tt) (λ q h. those-lt (λ p. arc net p q))
 
-  found : (r : Walked) → setOf net < 2 ^ 32 → net .start < 32 → net .end < 32 → RowWalks (rowsOn net Input) (rowsOn net Output) (net .start) (net .end) (setOf net) r → Walks net r
+  found : (r : Survey) → setOf net < 2 ^ 32 → net .start < 32 → net .end < 32 → RowSurvey (rowsOn net Input) (rowsOn net Output) (net .start) (net .end) (setOf net) r → NetSurvey net r
   unfolding lost
   found r h hs he w = record {
     lost-are =
@@ -159,6 +159,6 @@ module _ (net : Net) where
   }
 
   -- what is found from the rows on the net's sides and the set of its activities is what the check finds
-  pub rows-found : {inputs outputs : List ℕ} {all : ℕ} {r : Walked} → inputs ≡ rowsOn net Input → outputs ≡ rowsOn net Output → all ≡ setOf net
-      → all < 2 ^ 32 → net .start < 32 → net .end < 32 → RowWalks inputs outputs (net .start) (net .end) all r → Walks net r
+  pub rows-found : {inputs outputs : List ℕ} {all : ℕ} {r : Survey} → inputs ≡ rowsOn net Input → outputs ≡ rowsOn net Output → all ≡ setOf net
+      → all < 2 ^ 32 → net .start < 32 → net .end < 32 → RowSurvey inputs outputs (net .start) (net .end) all r → NetSurvey net r
   rows-found {inputs} {outputs} {all} {r} i o e h hs he w = found r (rw e at h) hs he (rw (i, o, e) at w)

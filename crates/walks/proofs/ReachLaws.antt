@@ -16,7 +16,7 @@ use Rattle.obligations.proofs.BoolLaws.{false-not-true, same-test, or-left, or-
 use Rattle.obligations.proofs.SetLaws.{member-none, member-union, member-with, single-lt, union-lt, set-ext, single-has, single-only, minus-some}
 use Rattle.obligations.proofs.MemberLaws.{members-are, size-none, size-le}
 use Rattle.walks.specs.Arcs.{named}
-use Rattle.walks.specs.Walks.{Along, here}
+use Rattle.walks.specs.Walk.{Along, here}
 use Rattle.walks.specs.Rows.{has, Has, unionFrom, rowsAt, grown, rounds, reach}
 use Rattle.walks.proofs.BelowLaws.{size-lt}
 use Rattle.walks.proofs.AlongLaws.{along-one, along-join, along-kept}

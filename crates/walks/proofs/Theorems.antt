@@ -12,7 +12,7 @@ use Rattle.net.specs.Orderly.{orderly, Orderly}
 use Rattle.net.specs.declared.Net.{Net}
 use Rattle.net.proofs.OrderlyLaws.{orderly-facts, facts-orderly}
 use Rattle.walks.specs.Arcs.{arcs}
-use Rattle.walks.specs.Walks.{Passes}
+use Rattle.walks.specs.Walk.{Passes}
 use Rattle.walks.specs.Check.{lost, lowest, checkSays}
 use Rattle.walks.specs.Statements.{LowestLost, ArcTestRight, DisorderlyRefused, PassingAccepted, LostRefused, WalksGrow}
 use Rattle.walks.proofs.ArcLaws.{arc-facts}

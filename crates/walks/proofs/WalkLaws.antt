@@ -21,7 +21,7 @@ use Rattle.net.specs.declared.Side.the-variants.{Input, Output}
 use Rattle.net.proofs.OrderlyLaws.{orderly-facts, on-side-activity, sets-length}
 use Rattle.walks.specs.Below.{anyBelow}
 use Rattle.walks.specs.Arcs.{Names, Arc, names, arc}
-use Rattle.walks.specs.Walks.{Walk, InNet, the-start, the-end, with-a-set, in-a-set, OnWalk}
+use Rattle.walks.specs.Walk.{Walk, InNet, the-start, the-end, with-a-set, in-a-set, OnWalk}
 use Rattle.walks.specs.Rows.{Has, reach}
 use Rattle.walks.specs.Check.{onSides, inNet, successors, predecessors}
 use Rattle.walks.proofs.BelowLaws.{any-true, true-any}

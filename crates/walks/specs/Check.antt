@@ -19,9 +19,9 @@ use Rattle.walks.specs.declared.CheckAnswer.{CheckAnswer}
 use Rattle.walks.specs.declared.CheckAnswer.the-variants.{Passed, Refused}
 
 -- what each answer says: an accepted check's value is the number of arcs
-abbrev pub checkSaid : CheckAnswer → Says
-checkSaid (Passed n) = accepted n
-checkSaid (Refused n p) = refused n p
+abbrev pub checkMeans : CheckAnswer → Says
+checkMeans (Passed n) = accepted n
+checkMeans (Refused n p) = refused n p
 
 -- a has a set on its side, or is named in a set on some activity's
 unfoldable pub onSides : Net → Side → ℕ → Bool

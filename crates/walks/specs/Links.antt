@@ -12,7 +12,7 @@ use Rattle.walks.specs.Below.{those}
 use Rattle.walks.specs.Arcs.{arcs}
 use Rattle.walks.specs.Rows.{has, rows, unionFrom, reach}
 use Rattle.walks.specs.Check.{lost}
-use Rattle.walks.specs.declared.Walked.{Walked}
+use Rattle.walks.specs.declared.Survey.{Survey}
 
 -- the members of each of the sets
 abbrev pub unionOf : List ℕ → ℕ
@@ -41,11 +41,11 @@ sizes (m ∷ ms) = size m + sizes ms
 
 -- what is found from the rows of those named on each activity's sides: the members of a set that are on no walk from start to
 -- end, and the number of arcs
-pub record RowWalks (inputs outputs : List ℕ) (start end all : ℕ) (r : Walked) : Type 0 where
+pub record RowSurvey (inputs outputs : List ℕ) (start end all : ℕ) (r : Survey) : Type 0 where
   pub lost-are : r .lost ≡ union (minus all (reach (links outputs inputs) start)) (minus all (reach (links inputs outputs) end))
   pub arcs-are : r .arcs ≡ sizes (links outputs inputs)
 
 -- what the check finds of an orderly net: its activities on no walk, and the number of its arcs
-pub record Walks (net : Net) (r : Walked) : Type 0 where
+pub record NetSurvey (net : Net) (r : Survey) : Type 0 where
   pub lost-are : r .lost ≡ lost net
   pub arcs-are : r .arcs ≡ arcs net

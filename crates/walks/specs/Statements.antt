@@ -9,7 +9,7 @@ use Rattle.net.specs.Orderly.{Orderly}
 use Rattle.net.specs.Contained.{Contained}
 use Rattle.net.specs.declared.Net.{Net}
 use Rattle.walks.specs.Arcs.{Arc, arc, arcs}
-use Rattle.walks.specs.Walks.{Walk, InNet, OnWalk, Passes}
+use Rattle.walks.specs.Walk.{Walk, InNet, OnWalk, Passes}
 use Rattle.walks.specs.Check.{checkSays}
 
 -- Where `Masks` is asked for: without it a set could name a number above 31, which would be in the net and on no walk, and

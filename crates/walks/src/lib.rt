@@ -14,8 +14,8 @@ ghost use lib.ListN.{length};
 ghost use Rattle.obligations.specs.Limits.{activities};
 ghost use Rattle.obligations.specs.Sets.{union};
 ghost use Rattle.net.specs.Orderly.{orderly};
-ghost use Rattle.walks.specs.Links.{unionOf, filled, RowWalks, Walks};
-ghost use Rattle.walks.specs.Check.{checkSaid, checkSays};
+ghost use Rattle.walks.specs.Links.{unionOf, filled, RowSurvey, NetSurvey};
+ghost use Rattle.walks.specs.Check.{checkMeans, checkSays};
 
 // Passed: the number of arcs. Refused: the refusal's number and the place that is returned with it.
 pub enum CheckAnswer {
@@ -24,14 +24,14 @@ pub enum CheckAnswer {
 }
 
 // The activities of a net that are on no walk from start to end, and the number of its arcs.
-pub struct Walked {
+pub struct Survey {
     pub lost: u32,
     pub arcs: u32,
 }
 
 // The net check.
 pub fn check(net: Net) -> CheckAnswer
-    ensures { λ r. ⌜ checkSaid r ≡ checkSays net ⌝ }
+    ensures { λ r. ⌜ checkMeans r ≡ checkSays net ⌝ }
 {
     if !is_orderly(net) {
         return CheckAnswer::Refused {
@@ -39,21 +39,21 @@ pub fn check(net: Net) -> CheckAnswer
             place: 0,
         };
     }
-    let walked = walk_all(net);
-    let lost = walked.lost;
+    let survey = survey_net(net);
+    let lost = survey.lost;
     if lost != 0 {
         return CheckAnswer::Refused {
             number: refusal::ON_NO_WALK,
             place: u32::trailing_zeros(lost),
         };
     }
-    CheckAnswer::Passed { arcs: walked.arcs }
+    CheckAnswer::Passed { arcs: survey.arcs }
 }
 
 // What the check finds of an orderly net. Callers that have tested the record call this.
-pub fn walk_all(net: Net) -> Walked
+pub fn survey_net(net: Net) -> Survey
     requires { ⌜ orderly net ≡ true ⌝ }
-    ensures { λ r. ⌜ Walks net r ⌝ }
+    ensures { λ r. ⌜ NetSurvey net r ⌝ }
 {
     let start = net.start;
     let end = net.end;
@@ -63,7 +63,7 @@ pub fn walk_all(net: Net) -> Walked
     let on_outputs = on_sides(&outputs, &net.output_len);
     let ends = sets::with(sets::single(start), end);
     let all = sets::union(ends, sets::union(on_inputs, on_outputs));
-    walk_rows(&inputs, &outputs, start, end, all)
+    survey_rows(&inputs, &outputs, start, end, all)
 }
 
 // The activities with a set on this kind of side, and those named in one.
@@ -76,16 +76,16 @@ fn on_sides<'a>(named: &'a [u32], lengths: &'a [u32]) -> u32
 
 // The members of a set that are on no walk from start to end, where the rows have those named on each activity's sides, and
 // the number of arcs.
-fn walk_rows<'a>(inputs: &'a [u32], outputs: &'a [u32], start: u32, end: u32, all: u32) -> Walked
+fn survey_rows<'a>(inputs: &'a [u32], outputs: &'a [u32], start: u32, end: u32, all: u32) -> Survey
     requires { ⌜ (length (now inputs) ≡ activities) × (length (now outputs) ≡ activities) ⌝ }
     requires { ⌜ (start < activities) × (end < activities) ⌝ }
-    ensures { λ r. ⌜ RowWalks (now (inputs .entry)) (now (outputs .entry)) start end all r ⌝ }
+    ensures { λ r. ⌜ RowSurvey (now (inputs .entry)) (now (outputs .entry)) start end all r ⌝ }
 {
     let next = arcs::links(outputs, inputs);
     let back = arcs::links(inputs, outputs);
     let from = reach::reach(&next, start);
     let to = reach::reach(&back, end);
-    Walked {
+    Survey {
         lost: sets::union(sets::minus(all, from), sets::minus(all, to)),
         arcs: arcs::sizes(&next),
     }

@@ -8,16 +8,16 @@ use borrow.Author.Tests.{not-true, not-false}
 use denote.Ref.{now}
 use lib.ListN.{length}
 use lib.Seq.{slice}
-use Rattle.logfile.specs.LogFile.{readLine, fits}
+use Rattle.logfile.specs.LogFile.{readLine, sizesOk}
 use Rattle.logfile.specs.Row.{answerOf, isRow}
 use Rattle.logfile.specs.Cursor.{begun, within, readNext}
 use Rattle.logfile.proofs.AnswerLaws.{line-row, line-is-row, line-filled, row-given, read-stays, read-given}
-use Rattle.logfile.proofs.FileLaws.{Passed, begun-passed, fits-room, next-unfit, next-differs, next-end, next-here, cursor-stays, cursor-goes}
+use Rattle.logfile.proofs.FileLaws.{Passed, begun-passed, sizes-room, next-unfit, next-differs, next-end, next-here, cursor-stays, cursor-goes}
 use Rattle.logfile.proofs.next_row.Statement.{statement}
 use Rattle.logfile.proofs.next_row.Tie as tie
 
-is-fit-requires : tie.Need-is-fit-requires
-is-fit-requires c κs = search needs
+sizes-ok-requires : tie.Need-sizes-ok-requires
+sizes-ok-requires c κs = search needs
 
 refused-requires : tie.Need-refused-requires
 refused-requires c κs = search needs
@@ -28,7 +28,7 @@ returns c =
     let s = now (a .text) in
     let o = now (a .out) in
     let k = a .cursor in
-    let q = next-unfit s k (length o) (sym (c .before .before .is-fit .ensures) ∙ not-true _ (c .before .if1 .taken)) in
+    let q = next-unfit s k (length o) (sym (c .before .before .sizes-ok .ensures) ∙ not-true _ (c .before .if1 .taken)) in
     record { reads = read-stays (readNext s k (length o)) (c .refused .result) o o (c .refused .ensures ∙ sym (ap answerOf q)) (ap isRow (c .refused .ensures)) refl; goes-on = cursor-stays s k (readNext s k (length o)) (ap isRow (ap answerOf q)) }
 
 inside-requires : tie.Need-inside-requires
@@ -60,7 +60,7 @@ returns-2 c =
     let s = now (a .text) in
     let o = now (a .out) in
     let k = a .cursor in
-    let f : fits s (length o) ≡ true = sym (c .before .before .before .before .before .before .is-fit .ensures) ∙ not-false _ (c .before .before .before .before .before .if1 .left) in
+    let f : sizesOk s (length o) ≡ true = sym (c .before .before .before .before .before .before .sizes-ok .ensures) ∙ not-false _ (c .before .before .before .before .before .if1 .left) in
     let b = ap (λ (i : ℕ). begun s i (k .line)) (sym (c .before .before .before .before .inside .ensures)) ∙ sym (c .before .before .before .begin .ensures) ∙ c .before .enum-told .given .1 in
     let q = next-differs s k (length o) f b in
     record { reads = read-stays (readNext s k (length o)) (c .refused2 .result) o o (c .refused2 .ensures ∙ sym (ap answerOf q)) (ap isRow (c .refused2 .ensures)) refl; goes-on = cursor-stays s k (readNext s k (length o)) (ap isRow (ap answerOf q)) }
@@ -71,7 +71,7 @@ returns-3 c =
     let s = now (a .text) in
     let o = now (a .out) in
     let k = a .cursor in
-    let f : fits s (length o) ≡ true = sym (c .before .before .before .before .before .before .before .is-fit .ensures) ∙ not-false _ (c .before .before .before .before .before .before .if1 .left) in
+    let f : sizesOk s (length o) ≡ true = sym (c .before .before .before .before .before .before .before .sizes-ok .ensures) ∙ not-false _ (c .before .before .before .before .before .before .if1 .left) in
     let h = c .before .before .header .given in
     let p = passed (c .before .before) in
     let q = next-end s k (length o) f (h .0 .0) (h .0 .1 .0) p (search needs) in
@@ -94,7 +94,7 @@ returns-4 c =
     let s = now (a .text) in
     let o = now (a .out) in
     let k = a .cursor in
-    let f : fits s (length o) ≡ true = sym (c .before .before .before .before .before .before .before .before .before .before .before .is-fit .ensures) ∙ not-false _ (c .before .before .before .before .before .before .before .before .before .before .if1 .left) in
+    let f : sizesOk s (length o) ≡ true = sym (c .before .before .before .before .before .before .before .before .before .before .before .sizes-ok .ensures) ∙ not-false _ (c .before .before .before .before .before .before .before .before .before .before .if1 .left) in
     let h = c .before .before .before .before .before .before .header .given in
     let p = passed (c .before .before .before .before .before .before) in
     let e = c .before .before .before .line-end .result in
@@ -110,7 +110,7 @@ fill-row-requires c κs =
     let s = now (a .text) in
     let o = now (a .out) in
     let k = a .cursor in
-    let f : fits s (length o) ≡ true = sym (c .before .before .before .before .before .before .before .before .before .before .before .before .is-fit .ensures) ∙ not-false _ (c .before .before .before .before .before .before .before .before .before .before .before .if1 .left) in
+    let f : sizesOk s (length o) ≡ true = sym (c .before .before .before .before .before .before .before .before .before .before .before .before .sizes-ok .ensures) ∙ not-false _ (c .before .before .before .before .before .before .before .before .before .before .before .if1 .left) in
     let h = c .before .before .before .before .before .before .before .header .given in
     let p = passed (c .before .before .before .before .before .before .before) in
     let e = c .before .before .before .before .line-end .result in
@@ -118,7 +118,7 @@ fill-row-requires c κs =
     let q = next-here s k (length o) f (h .0 .0) (h .0 .1 .0) p e (search needs) (c .before .before .before .before .line-end .ensures .exact) in
     let g = row-given x (ap isRow (sym (c .before .before .before .row-line .ensures)) ∙ sym (c .before .before .is-row .ensures) ∙ not-false _ (c .before .if3 .left)) in
     let w = line-row (h .0 .1 .0) (slice (h .0 .0) e s) (g .0) (g .1) (g .2) in
-    (search needs, search needs, line-is-row _ w (fits-room s (length o) f))
+    (search needs, search needs, line-is-row _ w (sizes-room s (length o) f))
 
 next-line-requires : tie.Need-next-line-requires
 next-line-requires c κs = search needs
@@ -129,7 +129,7 @@ add-t18 c =
     let s = now (a .text) in
     let o = now (a .out) in
     let k = a .cursor in
-    let f : fits s (length o) ≡ true = sym (c .before .before .before .before .before .before .before .before .before .before .before .before .before .before .before .before .is-fit .ensures) ∙ not-false _ (c .before .before .before .before .before .before .before .before .before .before .before .before .before .before .before .if1 .left) in
+    let f : sizesOk s (length o) ≡ true = sym (c .before .before .before .before .before .before .before .before .before .before .before .before .before .before .before .before .sizes-ok .ensures) ∙ not-false _ (c .before .before .before .before .before .before .before .before .before .before .before .before .before .before .before .if1 .left) in
     let h = c .before .before .before .before .before .before .before .before .before .before .before .header .given in
     let p = passed (c .before .before .before .before .before .before .before .before .before .before .before) in
     let e = c .before .before .before .before .before .before .before .before .line-end .result in
@@ -148,7 +148,7 @@ returns-5 c =
     let s = now (a .text) in
     let o = now (a .out) in
     let k = a .cursor in
-    let f : fits s (length o) ≡ true = sym (c .before .before .before .before .before .before .before .before .before .before .before .before .before .before .before .before .is-fit .ensures) ∙ not-false _ (c .before .before .before .before .before .before .before .before .before .before .before .before .before .before .before .if1 .left) in
+    let f : sizesOk s (length o) ≡ true = sym (c .before .before .before .before .before .before .before .before .before .before .before .before .before .before .before .before .sizes-ok .ensures) ∙ not-false _ (c .before .before .before .before .before .before .before .before .before .before .before .before .before .before .before .if1 .left) in
     let h = c .before .before .before .before .before .before .before .before .before .before .before .header .given in
     let p = passed (c .before .before .before .before .before .before .before .before .before .before .before) in
     let e = c .before .before .before .before .before .before .before .before .line-end .result in
@@ -163,7 +163,7 @@ pub next-row-spec : {M : Type 1} → statement M
 next-row-spec =
     tie.close
     (tie.spec
-    is-fit-requires
+    sizes-ok-requires
     refused-requires
     returns
     inside-requires

@@ -9,10 +9,10 @@ use borrow.Author.Tests.{not-true, not-false}
 use denote.Ref.{now}
 use lib.ListN.{length}
 use lib.Seq.{slice}
-use Rattle.logfile.specs.LogFile.{readLine, fits, readRow}
+use Rattle.logfile.specs.LogFile.{readLine, sizesOk, readRow}
 use Rattle.logfile.specs.Row.{answerOf, isRow}
 use Rattle.logfile.proofs.AnswerLaws.{line-row, line-is-row, line-filled, row-given, read-stays, read-given}
-use Rattle.logfile.proofs.FileLaws.{begun-passed, begun-differs, fits-room, row-unfit, row-zero, row-start, Going, going-start, going-end, going-here, going-stays, going-more}
+use Rattle.logfile.proofs.FileLaws.{begun-passed, begun-differs, sizes-room, row-unfit, row-zero, row-start, Going, going-start, going-end, going-here, going-stays, going-more}
 use Rattle.logfile.proofs.read_row.Statement.{statement}
 use Rattle.logfile.proofs.read_row.Tie as tie
 
@@ -33,8 +33,8 @@ returns c =
     let q = row-zero s (a .row) (length o) (c .before .if1 .taken) in
     read-stays (readRow s (a .row) (length o)) (c .refused .result) o o (c .refused .ensures ∙ sym (ap answerOf q)) (ap isRow (c .refused .ensures)) refl
 
-is-fit-requires : tie.Need-is-fit-requires Inv-loop μ-loop
-is-fit-requires c κs = search needs
+sizes-ok-requires : tie.Need-sizes-ok-requires Inv-loop μ-loop
+sizes-ok-requires c κs = search needs
 
 refused-requires-2 : tie.Need-refused-requires-2 Inv-loop μ-loop
 refused-requires-2 c κs = search needs
@@ -44,7 +44,7 @@ returns-2 c =
     let a = c .before .before .before .before .before .before .args in
     let s = now (a .text) in
     let o = now (a .out) in
-    let q = row-unfit s (a .row) (length o) (sym (c .before .before .is-fit .ensures) ∙ not-true _ (c .before .if2 .taken)) in
+    let q = row-unfit s (a .row) (length o) (sym (c .before .before .sizes-ok .ensures) ∙ not-true _ (c .before .if2 .taken)) in
     read-stays (readRow s (a .row) (length o)) (c .refused2 .result) o o (c .refused2 .ensures ∙ sym (ap answerOf q)) (ap isRow (c .refused2 .ensures)) refl
 
 begin-requires : tie.Need-begin-requires Inv-loop μ-loop
@@ -64,7 +64,7 @@ returns-3 c =
     let a = c .before .before .before .before .before .before .before .before .before .args in
     let s = now (a .text) in
     let o = now (a .out) in
-    let f : fits s (length o) ≡ true = sym (c .before .before .before .before .before .is-fit .ensures) ∙ not-false _ (c .before .before .before .before .if2 .left) in
+    let f : sizesOk s (length o) ≡ true = sym (c .before .before .before .before .before .sizes-ok .ensures) ∙ not-false _ (c .before .before .before .before .if2 .left) in
     let q = row-start s (a .row) (length o) (search needs) f ∙ begun-differs s 0 1 (a .row - 1) (sym (c .before .before .before .begin .ensures) ∙ c .before .enum-told .given .1) in
     read-stays (readRow s (a .row) (length o)) (c .refused3 .result) o o (c .refused3 .ensures ∙ sym (ap answerOf q)) (ap isRow (c .refused3 .ensures)) refl
 
@@ -74,7 +74,7 @@ loop-holds c =
     let s = now (a .text) in
     let o = now (a .out) in
     let h = c .before .header .given in
-    (going-start s (a .row) (length o) (h .0 .0) (h .0 .1 .0) (search needs) (sym (c .before .before .before .before .before .is-fit .ensures) ∙ not-false _ (c .before .before .before .before .if2 .left)) (begun-passed s 0 1 (h .0 .0) (h .0 .1 .0) (search needs) (sym (c .before .before .before .begin .ensures) ∙ h .1)), refl)
+    (going-start s (a .row) (length o) (h .0 .0) (h .0 .1 .0) (search needs) (sym (c .before .before .before .before .before .sizes-ok .ensures) ∙ not-false _ (c .before .before .before .before .if2 .left)) (begun-passed s 0 1 (h .0 .0) (h .0 .1 .0) (search needs) (sym (c .before .before .before .begin .ensures) ∙ h .1)), refl)
 
 line-end-requires : tie.Need-line-end-requires Inv-loop μ-loop
 line-end-requires c κs = search needs
@@ -114,7 +114,7 @@ fill-row-requires c κs =
     let e = c .before .before .before .before .before .line-end .result in
     let x = readLine (l .line) (slice (l .at) e s) in
     let g = row-given x (ap isRow (sym (c .before .before .before .before .row-line .ensures)) ∙ sym (c .before .before .before .is-row .ensures) ∙ not-false _ (c .before .before .if3 .left)) in
-    (search needs, search needs, line-is-row _ (line-row (l .line) (slice (l .at) e s) (g .0) (g .1) (g .2)) (omega (arith, fits-room s (length o) (sym (c .before .before .before .before .before .before .before .before .before .before .before .before .before .is-fit .ensures) ∙ not-false _ (c .before .before .before .before .before .before .before .before .before .before .before .before .if2 .left)), ap length (l .inv .1))))
+    (search needs, search needs, line-is-row _ (line-row (l .line) (slice (l .at) e s) (g .0) (g .1) (g .2)) (omega (arith, sizes-room s (length o) (sym (c .before .before .before .before .before .before .before .before .before .before .before .before .before .sizes-ok .ensures) ∙ not-false _ (c .before .before .before .before .before .before .before .before .before .before .before .before .if2 .left)), ap length (l .inv .1))))
 
 same-length-2 : tie.Need-same-length-2 Inv-loop μ-loop
 same-length-2 c = c .before .before .fill-row .kept .1 .1 .1 .0 ∙ ap length (c .before .before .before .before .before .before .before .before .before .before .loop .inv .1)
@@ -170,7 +170,7 @@ read-row-spec =
     μ-loop
     refused-requires
     returns
-    is-fit-requires
+    sizes-ok-requires
     refused-requires-2
     returns-2
     begin-requires

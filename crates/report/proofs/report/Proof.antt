@@ -3,10 +3,10 @@ use mathlib.Core.Path.{sym, ap, _∙_}
 use native.Mathlib.Omega.{arith}
 use borrow.Author.Needs.{needs}
 use denote.Ref.{now}
-use Rattle.net.specs.Refusals.{Says, too-long}
+use Rattle.net.specs.Refusals.{Says, outside-limits}
 use Rattle.net.specs.Orderly.{orderly}
-use Rattle.walks.specs.Check.{checkSaid, checkSays}
-use Rattle.netfile.specs.NetFile.{netSaid}
+use Rattle.walks.specs.Check.{checkMeans, checkSays}
+use Rattle.netfile.specs.NetFile.{netMeans}
 use Rattle.netfile.proofs.Theorems.{read-orderly}
 use Rattle.report.specs.Report.{netWord, logText}
 use Rattle.report.proofs.TextLaws.{refusal-short}
@@ -18,7 +18,7 @@ slice-aggregate-write-refusal : tie.Need-slice-aggregate-write-refusal
 slice-aggregate-write-refusal c = search needs
 
 write-refusal-requires : tie.Need-write-refusal-requires
-write-refusal-requires c κs = omega (arith, refusal-short netWord too-long 0)
+write-refusal-requires c κs = omega (arith, refusal-short netWord outside-limits 0)
 
 same-length : tie.Need-same-length
 same-length c = search needs
@@ -48,7 +48,7 @@ returns-2 c =
     let s = c .before .before .before .before .before .before .before .before .before .before .before .before .before .before .args in
     let r = c .before .before .before .before .before .before .before .before .before .read-net in
     let k = c .before .before .before .before .before .before .answer .given in
-    rw (net-unread (now (s .net-text)) (now (s .log-text)) (search needs) (k .0 .0) (k .0 .1 .0) (sym (r .ensures .says) ∙ ap netSaid (k .1))) (c .before .before .write-refusal2 .ensures)
+    rw (net-unread (now (s .net-text)) (now (s .log-text)) (search needs) (k .0 .0) (k .0 .1 .0) (sym (r .ensures .says) ∙ ap netMeans (k .1))) (c .before .before .write-refusal2 .ensures)
 
 enum-told : tie.Need-enum-told
 enum-told c = search needs
@@ -80,7 +80,7 @@ returns-3 c =
     let r = c .before .before .before .before .before .before .before .before .before .before .read-net in
     let k = c .before .before .before .before .enum-told2 .given in
     let p = ap checkSays (r .ensures .gives) in
-    rw (net-checked (now (s .net-text)) (now (s .log-text)) (search needs) (ap (λ (y : Says). y .ok) (sym (r .ensures .says) ∙ ap netSaid (c .before .before .before .before .before .before .before .enum-told .given .1))) (ap (λ (y : Says). y .ok) (sym p ∙ sym (c .before .before .before .before .before .before .check .ensures) ∙ ap checkSaid (k .1))) ∙ ap (λ n. logText n (now (s .log-text))) (sym (r .ensures .gives))) (c .before .before .report-log .ensures)
+    rw (net-checked (now (s .net-text)) (now (s .log-text)) (search needs) (ap (λ (y : Says). y .ok) (sym (r .ensures .says) ∙ ap netMeans (c .before .before .before .before .before .before .before .enum-told .given .1))) (ap (λ (y : Says). y .ok) (sym p ∙ sym (c .before .before .before .before .before .before .check .ensures) ∙ ap checkMeans (k .1))) ∙ ap (λ n. logText n (now (s .log-text))) (sym (r .ensures .gives))) (c .before .before .report-log .ensures)
 
 same-length-4 : tie.Need-same-length-4
 same-length-4 c = search needs
@@ -91,7 +91,7 @@ returns-4 c =
     let r = c .before .before .before .before .before .before .before .before .before .before .before .before .read-net in
     let k = c .before .before .before .before .before .before .checked .given in
     let p = ap checkSays (r .ensures .gives) in
-    rw (net-unchecked (now (s .net-text)) (now (s .log-text)) (search needs) (ap (λ (y : Says). y .ok) (sym (r .ensures .says) ∙ ap netSaid (c .before .before .before .before .before .before .before .before .before .enum-told .given .1))) (k .0 .0) (k .0 .1 .0) (sym p ∙ sym (c .before .before .before .before .before .before .before .before .check .ensures) ∙ ap checkSaid (k .1))) (c .before .before .write-refusal3 .ensures)
+    rw (net-unchecked (now (s .net-text)) (now (s .log-text)) (search needs) (ap (λ (y : Says). y .ok) (sym (r .ensures .says) ∙ ap netMeans (c .before .before .before .before .before .before .before .before .before .enum-told .given .1))) (k .0 .0) (k .0 .1 .0) (sym p ∙ sym (c .before .before .before .before .before .before .before .before .check .ensures) ∙ ap checkMeans (k .1))) (c .before .before .write-refusal3 .ensures)
 
 pub report-spec : {M : Type 1} → statement M
 report-spec =

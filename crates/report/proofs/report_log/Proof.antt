@@ -4,8 +4,8 @@ use native.Mathlib.Omega.{arith}
 use borrow.Author.Needs.{needs}
 use denote.Ref.{now}
 use Rattle.text.proofs.WriteLaws.{wrote-append}
-use Rattle.net.specs.Refusals.{Says, too-long}
-use Rattle.logfile.specs.LogFile.{rowSaid}
+use Rattle.net.specs.Refusals.{Says, outside-limits}
+use Rattle.logfile.specs.LogFile.{rowMeans}
 use Rattle.report.specs.Report.{logWord}
 use Rattle.report.proofs.TextLaws.{refusal-short}
 use Rattle.report.proofs.ReportLaws.{not-refused, log-long, log-refused, log-read, rows-room}
@@ -16,7 +16,7 @@ slice-aggregate-write-refusal : tie.Need-slice-aggregate-write-refusal
 slice-aggregate-write-refusal c = search needs
 
 write-refusal-requires : tie.Need-write-refusal-requires
-write-refusal-requires c κs = omega (arith, refusal-short logWord too-long 0)
+write-refusal-requires c κs = omega (arith, refusal-short logWord outside-limits 0)
 
 same-length : tie.Need-same-length
 same-length c = search needs
@@ -45,7 +45,7 @@ returns-2 : tie.Need-returns-2
 returns-2 c =
     let s = c .before .before .before .before .before .before .before .before .before .before .before .before .args in
     let k = c .before .before .before .before .before .before .answer .given in
-    rw (log-refused (s .net) (now (s .text)) (search needs) (k .0 .0) (k .0 .1 .0) (sym (c .before .before .before .before .before .before .before .before .log-end .ensures) ∙ ap (λ a. rowSaid a .says) (k .1))) (c .before .before .write-refusal2 .ensures)
+    rw (log-refused (s .net) (now (s .text)) (search needs) (k .0 .0) (k .0 .1 .0) (sym (c .before .before .before .before .before .before .before .before .log-end .ensures) ∙ ap (λ a. rowMeans a .says) (k .1))) (c .before .before .write-refusal2 .ensures)
 
 slice-aggregate-write-bytes : tie.Need-slice-aggregate-write-bytes
 slice-aggregate-write-bytes c = search needs

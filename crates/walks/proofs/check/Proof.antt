@@ -22,14 +22,14 @@ returns c = rw (sym (c .before .is-orderly .ensures) ∙ not-true _ (c .if1 .tak
 orderly-here : (c : tie.Else1) → orderly (c .before .before .args .net) ≡ true
 orderly-here c = sym (c .before .is-orderly .ensures) ∙ not-false _ (c .if1 .left)
 
-walk-all-requires : tie.Need-walk-all-requires
-walk-all-requires c κs = orderly-here c
+survey-net-requires : tie.Need-survey-net-requires
+survey-net-requires c κs = orderly-here c
 
 returns-2 : tie.Need-returns-2
 unfolding checkSays lostSays
 returns-2 c =
     let net = c .before .before .before .before .args .net in
-    let w = c .before .walk-all in
+    let w = c .before .survey-net in
     let n = c .if2 .taken in
     let p : 0 < lost net = omega (arith, w .ensures .lost-are) in
     rw (orderly-here (c .before .before), ne-eqb (lost net) 0 (omega arith), lowest-is (lost net) p (lost-lt net), w .ensures .lost-are)
@@ -38,8 +38,8 @@ returns-3 : tie.Need-returns-3
 unfolding checkSays lostSays
 returns-3 c =
     let net = c .before .before .before .before .args .net in
-    let w = c .before .walk-all in
+    let w = c .before .survey-net in
     rw (orderly-here (c .before .before), eq-eqb (lost net) 0 (sym (w .ensures .lost-are) ∙ c .if2 .left), w .ensures .arcs-are)
 
 pub check-spec : {M : Type 1} → statement M
-check-spec = tie.close (tie.spec is-orderly-requires returns walk-all-requires returns-2 returns-3)
+check-spec = tie.close (tie.spec is-orderly-requires returns survey-net-requires returns-2 returns-3)

@@ -16,17 +16,17 @@ use borrow.Author.Needs.{needs}
 use Rattle.sequences.proofs.judging.judge_positions.Statement.{statement}
 use Rattle.sequences.proofs.judging.judge_positions.Tie as tie
 
-walk-all-requires : tie.Need-walk-all-requires
-walk-all-requires c κs = search needs
+survey-net-requires : tie.Need-survey-net-requires
+survey-net-requires c κs = search needs
 
 returns : tie.Need-returns
 returns c =
     let g = c .before .before .before in
     let net = g .args .net in
     let ws = g .args .words .now in
-    let e = c .before .walk-all .ensures .lost-are in
+    let e = c .before .survey-net .ensures .lost-are in
     let p : 0 < lost net = omega (arith, e, c .if1 .taken) in
-    let q : lowest (lost net) ≡ trailingZeros 32 (c .before .walk-all .result .lost) = lowest-is (lost net) p (lost-lt net) ∙ ap (trailingZeros 32) (sym e) in
+    let q : lowest (lost net) ≡ trailingZeros 32 (c .before .survey-net .result .lost) = lowest-is (lost net) p (lost-lt net) ∙ ap (trailingZeros 32) (sym e) in
     subst (λ (k : ℕ). PositionsJudged net (bindings ws) (Refused 6 k)) q (refused-lost net (bindings ws) (λ z. omega arith))
 
 is-shaped-requires : tie.Need-is-shaped-requires
@@ -37,7 +37,7 @@ returns-2 c =
     let g = c .before .before .before .before .before in
     let net = g .args .net in
     let ws = g .args .words .now in
-    judged-ends net (bindings ws) (sym (c .before .before .before .walk-all .ensures .lost-are) ∙ c .before .before .if1 .left) (shaped-same (net .start) (net .end) ws (g .args .n) (g .pre .1) ∙ sym (c .before .is-shaped .ensures) ∙ not-true (c .before .is-shaped .result) (c .if2 .taken))
+    judged-ends net (bindings ws) (sym (c .before .before .before .survey-net .ensures .lost-are) ∙ c .before .before .if1 .left) (shaped-same (net .start) (net .end) ws (g .args .n) (g .pre .1) ∙ sym (c .before .is-shaped .ensures) ∙ not-true (c .before .is-shaped .result) (c .if2 .taken))
 
 first-missing-requires : tie.Need-first-missing-requires
 first-missing-requires c κs = search needs
@@ -47,7 +47,7 @@ returns-3 c =
     let g = c .before .before .before .before .before .before .before in
     let net = g .args .net in
     let ws = g .args .words .now in
-    judged-missing net (bindings ws) (sym (c .before .before .before .before .before .walk-all .ensures .lost-are) ∙ c .before .before .before .before .if1 .left) (shaped-same (net .start) (net .end) ws (g .args .n) (g .pre .1) ∙ sym (c .before .before .before .is-shaped .ensures) ∙ not-false (c .before .before .before .is-shaped .result) (c .before .before .if2 .left)) (c .before .first-missing .result) (c .before .first-missing .ensures) (c .if3 .taken)
+    judged-missing net (bindings ws) (sym (c .before .before .before .before .before .survey-net .ensures .lost-are) ∙ c .before .before .before .before .if1 .left) (shaped-same (net .start) (net .end) ws (g .args .n) (g .pre .1) ∙ sym (c .before .before .before .is-shaped .ensures) ∙ not-false (c .before .before .before .is-shaped .result) (c .before .before .if2 .left)) (c .before .first-missing .result) (c .before .first-missing .ensures) (c .if3 .taken)
 
 run-judged-requires : tie.Need-run-judged-requires
 run-judged-requires c κs = search needs
@@ -57,13 +57,13 @@ returns-4 c =
     let g = c .before .before .before .before .before .before .before .before in
     let net = g .args .net in
     let ws = g .args .words .now in
-    judged-run net (bindings ws) (sym (c .before .before .before .before .before .before .walk-all .ensures .lost-are) ∙ c .before .before .before .before .before .if1 .left) (shaped-same (net .start) (net .end) ws (g .args .n) (g .pre .1) ∙ sym (c .before .before .before .before .is-shaped .ensures) ∙ not-false (c .before .before .before .before .is-shaped .result) (c .before .before .before .if2 .left)) (sym (c .before .before .first-missing .ensures) ∙ c .before .if3 .left) (c .run-judged .ensures)
+    judged-run net (bindings ws) (sym (c .before .before .before .before .before .before .survey-net .ensures .lost-are) ∙ c .before .before .before .before .before .if1 .left) (shaped-same (net .start) (net .end) ws (g .args .n) (g .pre .1) ∙ sym (c .before .before .before .before .is-shaped .ensures) ∙ not-false (c .before .before .before .before .is-shaped .result) (c .before .before .before .if2 .left)) (sym (c .before .before .first-missing .ensures) ∙ c .before .if3 .left) (c .run-judged .ensures)
 
 pub judge-positions-spec : {M : Type 1} → statement M
 judge-positions-spec =
     tie.close
     (tie.spec
-    walk-all-requires
+    survey-net-requires
     returns
     is-shaped-requires
     returns-2

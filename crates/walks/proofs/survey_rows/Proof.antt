@@ -1,7 +1,7 @@
--- `walk_rows` meets its contract: what its calls give, put together. Assumes nothing.
+-- `survey_rows` meets its contract: what its calls give, put together. Assumes nothing.
 use borrow.Author.Needs.{needs}
-use Rattle.walks.proofs.walk_rows.Statement.{statement}
-use Rattle.walks.proofs.walk_rows.Tie as tie
+use Rattle.walks.proofs.survey_rows.Statement.{statement}
+use Rattle.walks.proofs.survey_rows.Tie as tie
 
 links-requires : tie.Need-links-requires
 links-requires c κs = search needs
@@ -53,8 +53,8 @@ returns c =
     let z = c .sizes .ensures in
     record { lost-are = cc (u, m, n, t, f, k, l); arcs-are = cc (z, l) }
 
-pub walk-rows-spec : {M : Type 1} → statement M
-walk-rows-spec =
+pub survey-rows-spec : {M : Type 1} → statement M
+survey-rows-spec =
     tie.close
     (tie.spec
     links-requires

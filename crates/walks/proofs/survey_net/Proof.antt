@@ -1,4 +1,4 @@
--- `walk_all` meets its contract: the rows are the net's arcs, and the union has the net's activities. Assumes nothing.
+-- `survey_net` meets its contract: the rows are the net's arcs, and the union has the net's activities. Assumes nothing.
 use borrow.Author.Needs.{needs}
 use mathlib.Core.Path.{ap, _∙_}
 use Prim.Native.Nat.{_<_}
@@ -6,8 +6,8 @@ use lib.ListN.{length}
 use Rattle.net.proofs.OrderlyLaws.{ends-facts, orderly-ends, orderly-arrays}
 use Rattle.net.specs.declared.Side.the-variants.{Input, Output}
 use Rattle.walks.proofs.LinkLaws.{named-rows-long, rows-found}
-use Rattle.walks.proofs.walk_all.Statement.{statement}
-use Rattle.walks.proofs.walk_all.Tie as tie
+use Rattle.walks.proofs.survey_net.Statement.{statement}
+use Rattle.walks.proofs.survey_net.Tie as tie
 
 named-rows-requires : tie.Need-named-rows-requires
 named-rows-requires c κs = let s = c .before .before .before .before .before in orderly-arrays (s .args .t1) (s .pre) Input
@@ -41,11 +41,11 @@ union-requires c κs = search needs
 union-requires-2 : tie.Need-union-requires-2
 union-requires-2 c κs = search needs
 
-slice-aggregate-walk-rows : tie.Need-slice-aggregate-walk-rows
-slice-aggregate-walk-rows c = search needs
+slice-aggregate-survey-rows : tie.Need-slice-aggregate-survey-rows
+slice-aggregate-survey-rows c = search needs
 
-slice-aggregate-walk-rows-2 : tie.Need-slice-aggregate-walk-rows-2
-slice-aggregate-walk-rows-2 c = search needs
+slice-aggregate-survey-rows-2 : tie.Need-slice-aggregate-survey-rows-2
+slice-aggregate-survey-rows-2 c = search needs
 
 -- the places of the calls before the last one
 abbrev inputs-at : tie.After-outputs2 → tie.After-named-rows
@@ -60,8 +60,8 @@ start-at c = inputs-at c .before .before .before .before .before .before
 ends : (s : tie.Start) → (s .args .t1 .start < 32) × (s .args .t1 .end < 32)
 ends s = let e = ends-facts (s .args .t1 .start) (s .args .t1 .end) (orderly-ends (s .args .t1) (s .pre)) in (e .0, e .1)
 
-walk-rows-requires : tie.Need-walk-rows-requires
-walk-rows-requires c κs = (
+survey-rows-requires : tie.Need-survey-rows-requires
+survey-rows-requires c κs = (
   (ap length (inputs-at c .named-rows .ensures) ∙ named-rows-long _ _, ap length (outputs-at c .named-rows2 .ensures) ∙ named-rows-long _ _),
   ends (start-at c),
 )
@@ -79,10 +79,10 @@ returns c =
     let o = outputs-at p .named-rows2 .ensures in
     rows-found net i o
     (cc (all .union2 .ensures, all .before .union .ensures, with .with .ensures, with .before .single .ensures, on-outputs .on-sides2 .ensures, on-inputs .on-sides .ensures, i, o))
-    (all .union2 .ok) (ends-here .0) (ends-here .1) (c .walk-rows .ensures)
+    (all .union2 .ok) (ends-here .0) (ends-here .1) (c .survey-rows .ensures)
 
-pub walk-all-spec : {M : Type 1} → statement M
-walk-all-spec =
+pub survey-net-spec : {M : Type 1} → statement M
+survey-net-spec =
     tie.close
     (tie.spec
     named-rows-requires
@@ -95,7 +95,7 @@ walk-all-spec =
     with-requires
     union-requires
     union-requires-2
-    slice-aggregate-walk-rows
-    slice-aggregate-walk-rows-2
-    walk-rows-requires
+    slice-aggregate-survey-rows
+    slice-aggregate-survey-rows-2
+    survey-rows-requires
     returns)
