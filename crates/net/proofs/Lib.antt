@@ -1,4 +1,5 @@
 -- The laws of the definitions in specs/, by concept.
+pub mod SentenceLaws
 pub mod BelowLaws
 pub mod ListLaws
 pub mod InsertLaws
@@ -12,5 +13,8 @@ pub mod PutLaws
 pub mod FreshLaws
 pub mod ContainedLaws
 pub mod AscendingLaws
+pub mod DistinctLaws
+pub mod CommonLaws
+pub mod RefusalLaws
 pub mod WithinLaws
 pub mod Theorems

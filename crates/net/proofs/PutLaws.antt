@@ -13,7 +13,8 @@ use Rattle.obligations.proofs.BoolLaws.{true-or-false, false-not-true}
 use Rattle.net.specs.Refusals.{Says, refused, disorderly, no-activity}
 use Rattle.net.specs.Sides.{masksOf, lengthsOf, emptyAt, OnSide, netSize}
 use Rattle.net.specs.Orderly.{orderly}
-use Rattle.net.specs.Put.{sideSays, putSays, grows, grownMasks, grownLengths, withSides, putMasks, putLengths, putGives, SideDone, PutDone}
+use Rattle.net.specs.Put.{sideSays, putSays, grows, grownMasks, grownLengths, withSides, putMasks, putLengths, putGives, PutDone}
+use Rattle.net.specs.Inner.{SideDone}
 use Rattle.net.specs.declared.Net.{Net}
 use Rattle.net.specs.declared.Side.{Side}
 use Rattle.net.specs.declared.PutAnswer.{PutAnswer}

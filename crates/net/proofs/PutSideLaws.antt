@@ -4,18 +4,20 @@ use Prim.Native.Nat.{ℕ, _+_, _<_, _≤_}
 use native.Mathlib.Decide.{ℕ-discrete as decEq, decLt}
 use native.Mathlib.Omega.{arith}
 use mathlib.Core.Path.{_≡_, refl, sym, _∙_}
-use mathlib.Core.Bool.{Bool, true, false, cond, _&&_, _||_, or-false, or-comm}
+use mathlib.Core.Bool.{Bool, true, false, cond, not, _&&_, _||_, or-false, or-comm}
 use mathlib.Core.Logic.{_⊎_, inl, inr, ⊎-elim, _↔_}
 use mathlib.Core.List.{List, [], _∷_}
 use lib.Dec.{eqb}
 use lib.ListN.{length, getD, set, List·getD-eq-default}
 use borrow.Author.Tests.{eqb-true, eqb-false, not-false, eq-eqb, ne-eqb}
 use Rattle.obligations.specs.Limits.{activities}
+use Rattle.obligations.specs.Tests.{indicator}
 use Rattle.obligations.specs.State.{total}
 use Rattle.obligations.proofs.BoolLaws.{true-or-false, false-not-true, and-left, and-right, or-right, or-cases}
 use Rattle.obligations.proofs.TotalLaws.{total-raise}
 use Rattle.net.specs.Limits.{sets}
-use Rattle.net.specs.Refusals.{Says, accepted, refused, misplaced-set, full-side}
+use Rattle.net.specs.Refusals.{Says, accepted, misplaced-set, full-side}
+use Rattle.net.specs.Chains.{unless}
 use Rattle.net.specs.Lists.{listed}
 use Rattle.net.specs.Sides.{sideIn}
 use Rattle.net.specs.Put.{misplaced, sideSays, grows, grownMasks, grownLengths, putMasks, putLengths}
@@ -28,7 +30,7 @@ use Rattle.net.proofs.GrownLaws.{grown-side-same, grown-side-other, gro
 
 -- what is said, by the three tests: misplaced, there already, full
 abbrev chain : Bool → Bool → Bool → Says
-chain q r s = cond q (refused misplaced-set 0) (cond r (accepted 0) (cond s (refused full-side 0) (accepted 1)))
+chain q r s = unless (not q) misplaced-set (unless (r || not s) full-side (accepted (indicator (not r))))
 
 chain-accepted : (q r s : Bool) → chain q r s .ok ≡ true → (r ≡ true) ⊎ (grows (chain q r s) ≡ true)
 unfolding grows

@@ -1,9 +1,23 @@
 -- The statements of specs/Statements.antt, each from the laws of its definition. Assumes nothing.
-use Rattle.net.specs.Statements.{OrderlyTestRight, ContainedTestRight, FreshHolds, PutHolds, PutRefusedSame}
+use Prim.Native.Nat.{ℕ}
+use native.Mathlib.Omega.{arith}
+use mathlib.Core.Path.{_≡_, refl, sym, ap}
+use mathlib.Core.Bool.{Bool, true, false, cond}
+use mathlib.Core.Logic.{_⊎_, inl, inr, ⊎-elim}
+use Rattle.obligations.proofs.BoolLaws.{true-or-false, false-not-true}
+use Rattle.net.specs.Refusals.{Says, accepted, refused}
+use Rattle.net.specs.Orderly.{Orderly, endsOk, orderly}
+use Rattle.net.specs.Fresh.{freshNet, freshSays, freshGives}
+use Rattle.net.specs.Put.{putSays, putGives}
+use Rattle.net.specs.Contained.{Contained, contained, containedSays}
+use Rattle.net.specs.Statements.{OrderlyTestRight, ContainedTestRight, FreshHolds, FreshRefused, Put, PutHolds, PutRefusedSame, ContainedSaid, FreshListed, PutListed, ContainedListed}
+use Rattle.net.specs.declared.Net.{Net}
+use Rattle.net.specs.declared.Side.{Side}
 use Rattle.net.proofs.OrderlyLaws.{orderly-facts, facts-orderly}
 use Rattle.net.proofs.FreshLaws.{fresh-start, fresh-end, fresh-on-side, fresh-orderly}
 use Rattle.net.proofs.PutLaws.{put-refused, put-accepted, put-start, put-end, put-orderly, put-on-side, put-size}
 use Rattle.net.proofs.ContainedLaws.{contained-facts, facts-contained}
+use Rattle.net.proofs.RefusalLaws.{fresh-listed, put-listed, contained-listed}
 
 pub orderly-test-right : OrderlyTestRight
 orderly-test-right net = (orderly-facts net, facts-orderly net)
@@ -11,22 +25,99 @@ orderly-test-right net = (orderly-facts net, facts-orderly net)
 pub contained-test-right : ContainedTestRight
 contained-test-right net other = (contained-facts net other, facts-contained net other)
 
+-- ---- fresh
+
+-- the net that fresh returns where it accepts
+pub fresh-made : (start end : ℕ) → freshSays start end ≡ accepted 0 → (endsOk start end ≡ true) × (freshGives start end ≡ freshNet start end)
+unfolding freshSays freshGives
+fresh-made start end e =
+    let h = ⊎-elim (λ o. o) (λ o. absurd (false-not-true refl (ap (λ (s : Says). s .ok) (rw o at e)))) (true-or-false (endsOk start end)) in
+    (h, rw h)
+
 pub fresh-holds : FreshHolds
-fresh-holds start end h = record {
-  start-is = fresh-start start end;
-  end-is = fresh-end start end;
-  is-orderly = orderly-facts _ (fresh-orderly start end h);
-  two-empty = fresh-on-side start end h;
-}
+fresh-holds start end e =
+    let h = fresh-made start end e in
+    rw (h .1) (record {
+      start-is = fresh-start start end;
+      end-is = fresh-end start end;
+      is-orderly = orderly-facts _ (fresh-orderly start end (h .0));
+      two-empty = fresh-on-side start end (h .0);
+    })
+
+pub fresh-refused : FreshRefused
+unfolding freshSays freshGives
+fresh-refused start end n p e = ⊎-elim (λ o. absurd (false-not-true refl (sym (ap (λ (s : Says). s .ok) (rw o at e))))) (λ o. rw o) (true-or-false (endsOk start end))
+
+-- ---- put
+
+put-with : (net : Net) (side : Side) (a m new : ℕ) → putSays net side a m ≡ accepted new → Put net side a m new (putGives net side a m)
+put-with net side a m new e =
+    let ok = ap (λ (s : Says). s .ok) e in
+    record {
+      same-start = put-start net side a m;
+      same-end = put-end net side a m;
+      is-orderly = orderly-facts _ (put-orderly net side a m (put-accepted net side a m ok .0));
+      on-sides = put-on-side net side a m ok;
+      grown-by = rw (← ap (λ (s : Says). s .value) e) (put-size net side a m ok);
+    }
 
 pub put-holds : PutHolds
-put-holds net side a m ok = record {
-  same-start = put-start net side a m;
-  same-end = put-end net side a m;
-  is-orderly = orderly-facts _ (put-orderly net side a m (put-accepted net side a m ok .0));
-  on-sides = put-on-side net side a m ok;
-  grown-by = put-size net side a m ok;
-}
+put-holds net side a m = (put-with net side a m 1, put-with net side a m 0)
 
 pub put-refused-same : PutRefusedSame
-put-refused-same net side a m = put-refused net side a m
+put-refused-same net side a m n p e = put-refused net side a m (ap (λ (s : Says). s .ok) e)
+
+-- ---- containment
+
+-- what containment says, from its three tests
+module _ (net other : Net) where
+  contained-tests : (p q r : Bool) → orderly net ≡ p → orderly other ≡ q → contained net other ≡ r
+      → ((containedSays net other ≡ accepted 1) → (p ≡ true) × (q ≡ true) × (r ≡ true)) × ((containedSays net other ≡ accepted 0) → (p ≡ true) × (q ≡ true) × (r ≡ false))
+  unfolding containedSays
+  contained-tests true true true e f g = ((λ h. (refl, refl, refl)), (λ h. absurd (one-not-none (sym (ap (λ (s : Says). s .value) (rw (e, f, g) at h))))))
+    where
+      one-not-none : _≡_ {A = ℕ} 0 1 → ⊥
+      one-not-none z = omega arith
+  contained-tests true true false e f g = ((λ h. absurd (one-not-none (ap (λ (s : Says). s .value) (rw (e, f, g) at h)))), (λ h. (refl, refl, refl)))
+    where
+      one-not-none : _≡_ {A = ℕ} 0 1 → ⊥
+      one-not-none z = omega arith
+  contained-tests true false r e f g = ((λ h. absurd (stops h)), (λ h. absurd (stops h)))
+    where
+      stops : {v : ℕ} → containedSays net other ≡ accepted v → ⊥
+      stops h = false-not-true refl (ap (λ (s : Says). s .ok) (rw (e, f) at h))
+  contained-tests false q r e f g = ((λ h. absurd (stops h)), (λ h. absurd (stops h)))
+    where
+      stops : {v : ℕ} → containedSays net other ≡ accepted v → ⊥
+      stops h = false-not-true refl (ap (λ (s : Says). s .ok) (rw e at h))
+
+  says-contained : (r : Bool) → Orderly net → Orderly other → contained net other ≡ r → containedSays net other ≡ cond r (accepted 1) (accepted 0)
+  unfolding containedSays
+  says-contained r o q e = rw (facts-orderly net o, facts-orderly other q, e)
+
+pub contained-said : ContainedSaid
+contained-said net other =
+    let t = contained-tests net other (orderly net) (orderly other) (contained net other) refl refl refl in (
+      (
+        (λ e. let h = t .0 e in (orderly-facts net (h .0), orderly-facts other (h .1), contained-facts net other (h .2))),
+        (λ h. says-contained net other true (h .0) (h .1) (facts-contained net other (h .2))),
+      ),
+      (
+        (λ e. let h = t .1 e in (orderly-facts net (h .0), orderly-facts other (h .1), (λ c. false-not-true (h .2) (facts-contained net other c)))),
+        (λ h. says-contained net other false (h .0) (h .1) (not-contained (h .2))),
+      ),
+    )
+  where
+    not-contained : (Contained net other → ⊥) → contained net other ≡ false
+    not-contained n = ⊎-elim (λ t. absurd (n (contained-facts net other t))) (λ f. f) (true-or-false (contained net other))
+
+-- ---- the refusals
+
+pub fresh-as-listed : FreshListed
+fresh-as-listed = fresh-listed
+
+pub put-as-listed : PutListed
+put-as-listed = put-listed
+
+pub contained-as-listed : ContainedListed
+contained-as-listed = contained-listed

@@ -1,6 +1,7 @@
 -- Lists of masks: tests that compute, and insertion into an ascending list.
-use Prim.Native.Nat.{ℕ, zero, suc, min, max}
-use mathlib.Core.Bool.{Bool, true, false, _&&_, _||_}
+use Prim.Native.Nat.{ℕ, zero, suc, _≤_, min, max}
+use mathlib.Core.Path.{_≡_}
+use mathlib.Core.Bool.{Bool, true, false, not, _&&_, _||_}
 use mathlib.Core.List.{List, [], _∷_, _++_}
 use lib.Dec.{ltb, eqb}
 use lib.ListN.{length, take, drop, replicate}
@@ -19,6 +20,15 @@ listed m (x ∷ xs) = eqb x m || listed m xs
 unfoldable pub allListed : List ℕ → List ℕ → Bool
 allListed [] ys = true
 allListed (x ∷ xs) ys = listed x ys && allListed xs ys
+
+-- no element occurs twice
+unfoldable pub distinct : List ℕ → Bool
+distinct [] = true
+distinct (x ∷ xs) = not (listed x xs) && distinct xs
+
+-- at most n numbers have the property: every list of distinct ones is at most so long
+abbrev pub AtMost : ℕ → (ℕ → Type 0) → Type 0
+AtMost n P = (ms : List ℕ) → distinct ms ≡ true → ((m : ℕ) → listed m ms ≡ true → P m) → length ms ≤ n
 
 -- the list strictly ascends, and its first element is above p
 unfoldable pub ascendsAbove : ℕ → List ℕ → Bool

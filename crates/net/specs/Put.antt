@@ -1,16 +1,21 @@
 -- Put: one set added to one side (01, "The net and its sets").
-use Prim.Native.Nat.{ℕ, _*_, _+_}
+use Prim.Native.Nat.{ℕ, _*_, _+_, _≤_}
 use mathlib.Core.Path.{_≡_}
-use mathlib.Core.Bool.{Bool, cond, not, _&&_}
-use mathlib.Core.List.{List}
+use mathlib.Core.Bool.{Bool, cond, not, _&&_, _||_}
+use mathlib.Core.List.{List, [], _∷_}
+use mathlib.Core.Logic.{_⊎_}
 use lib.Dec.{eqb, ltb}
 use lib.ListN.{getD, set}
 use Rattle.obligations.specs.Limits.{activities}
+use Rattle.obligations.specs.Tests.{indicator}
 use Rattle.net.specs.Limits.{sets}
 use Rattle.net.specs.Refusals.{Says, accepted, refused, disorderly, no-activity, misplaced-set, full-side}
-use Rattle.net.specs.Lists.{listed, insert, splice}
-use Rattle.net.specs.Sides.{masksOf, lengthsOf, emptyAt, sideIn}
+use Rattle.net.specs.Sentences.{Sentence, whole}
+use Rattle.net.specs.Chains.{unless}
+use Rattle.net.specs.Lists.{listed, insert, splice, AtMost}
+use Rattle.net.specs.Sides.{masksOf, lengthsOf, emptyAt, sideIn, OnSide}
 use Rattle.net.specs.Orderly.{orderly}
+use Rattle.net.specs.Common.{notOrderly}
 use Rattle.net.specs.declared.Net.{Net}
 use Rattle.net.specs.declared.Side.{Side}
 use Rattle.net.specs.declared.Side.the-variants.{Input, Output}
@@ -18,28 +23,49 @@ use Rattle.net.specs.declared.PutAnswer.{PutAnswer}
 use Rattle.net.specs.declared.PutAnswer.the-variants.{New, Present, Refused}
 use Rattle.net.specs.declared.PutResult.{PutResult}
 
--- what each answer says: an accepted put's value is the number of new sets
+-- what each answer means: an accepted put's value is the number of new sets
 abbrev pub putMeans : PutAnswer → Says
 putMeans New = accepted 1
 putMeans Present = accepted 0
 putMeans (Refused n p) = refused n p
 
--- the empty set on a side that may not hold it, or another on a side that must hold only it
+-- ---- the refusals
+
+-- 5: the empty set on a side that may not hold it, or another on a side that must hold only it
+abbrev pub Misplaced : Net → Side → ℕ → ℕ → Type 0
+Misplaced net side a m = ((m ≡ 0) × (a ≡ emptyAt net side → ⊥)) ⊎ ((m ≡ 0 → ⊥) × (a ≡ emptyAt net side))
+
+-- 12: the side would exceed 16 sets
+abbrev pub Exceeds : Net → Side → ℕ → ℕ → Type 0
+Exceeds net side a m = AtMost sets (λ x. OnSide net side a x ⊎ (x ≡ m)) → ⊥
+
+abbrev pub putRefusals : Net → Side → ℕ → ℕ → List Sentence
+putRefusals net side a m =
+    notOrderly net
+    ∷ whole no-activity (activities ≤ a)
+    ∷ whole misplaced-set (Misplaced net side a m)
+    ∷ whole full-side (Exceeds net side a m)
+    ∷ []
+
+-- ---- what is said
+
+-- 5 as a test; `empty` is the activity whose side holds just the empty set
 unfoldable pub misplaced : ℕ → ℕ → ℕ → Bool
 misplaced empty a m = cond (eqb m 0) (not (eqb a empty)) (eqb a empty)
 
 -- what is said of a set m for activity a's side, in arrays of masks and lengths
 unfoldable pub sideSays : List ℕ → List ℕ → ℕ → ℕ → ℕ → Says
 sideSays masks lengths empty a m =
-    cond (misplaced empty a m)
-    (refused misplaced-set 0)
-    (cond (listed m (sideIn masks lengths a)) (accepted 0) (cond (eqb (getD lengths a 0) sets) (refused full-side 0) (accepted 1)))
+    let there = listed m (sideIn masks lengths a) in
+    unless (not (misplaced empty a m)) misplaced-set
+    (unless (there || not (eqb (getD lengths a 0) sets)) full-side
+    (accepted (indicator (not there))))
 
 unfoldable pub putSays : Net → Side → ℕ → ℕ → Says
 putSays net side a m =
-    cond (orderly net)
-    (cond (ltb a activities) (sideSays (masksOf net side) (lengthsOf net side) (emptyAt net side) a m) (refused no-activity 0))
-    (refused disorderly 0)
+    unless (orderly net) disorderly
+    (unless (ltb a activities) no-activity
+    (sideSays (masksOf net side) (lengthsOf net side) (emptyAt net side) a m))
 
 -- the call was accepted and its set is new
 unfoldable pub grows : Says → Bool
@@ -68,12 +94,7 @@ putMasks masks lengths empty a m = cond (grows (sideSays masks lengths empty a m
 unfoldable pub putLengths : List ℕ → List ℕ → ℕ → ℕ → ℕ → List ℕ
 putLengths masks lengths empty a m = cond (grows (sideSays masks lengths empty a m)) (grownLengths lengths a) lengths
 
--- what a put on activity a's side leaves: its answer and the two arrays
-pub record SideDone (masks lengths : List ℕ) (empty a m : ℕ) (r : PutAnswer) (masks′ lengths′ : List ℕ) : Type 0 where
-  pub says : putMeans r ≡ sideSays masks lengths empty a m
-  pub masks-are : masks′ ≡ putMasks masks lengths empty a m
-  pub lengths-are : lengths′ ≡ putLengths masks lengths empty a m
-
+-- the net that put has to return: with the set if it is new, else the very net given
 unfoldable pub putGives : Net → Side → ℕ → ℕ → Net
 putGives net side a m = cond (grows (putSays net side a m)) (withSet net side a m) net
 

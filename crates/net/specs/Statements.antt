@@ -6,12 +6,16 @@ use mathlib.Core.Path.{_≡_}
 use mathlib.Core.Bool.{true, false}
 use mathlib.Core.Logic.{_↔_, _⊎_}
 use Rattle.net.specs.Sides.{emptyAt, OnSide, netSize}
-use Rattle.net.specs.Orderly.{Orderly, endsOk, orderly}
-use Rattle.net.specs.Fresh.{freshNet}
-use Rattle.net.specs.Put.{putSays, putGives}
-use Rattle.net.specs.Contained.{Contained, contained}
+use Rattle.net.specs.Sentences.{AsListed}
+use Rattle.net.specs.Orderly.{Orderly, orderly}
+use Rattle.net.specs.Fresh.{freshMeans, freshNet, freshRefusals, freshSays, freshGives}
+use Rattle.net.specs.Put.{putMeans, putRefusals, putSays, putGives}
+use Rattle.net.specs.Contained.{Contained, contained, containedMeans, containedRefusals, containedSays}
 use Rattle.net.specs.declared.Net.{Net}
 use Rattle.net.specs.declared.Side.{Side}
+use Rattle.net.specs.declared.FreshAnswer.the-variants as fresh
+use Rattle.net.specs.declared.PutAnswer.the-variants as put
+use Rattle.net.specs.declared.ContainedAnswer.the-variants as answer
 
 -- the test of a record is the paper's
 abbrev pub OrderlyTestRight : Type 0
@@ -29,7 +33,11 @@ pub record Fresh (start end : ℕ) (net : Net) : Type 0 where
   pub two-empty : (side : Side) (a m : ℕ) → OnSide net side a m ↔ ((a ≡ emptyAt net side) × (m ≡ 0))
 
 abbrev pub FreshHolds : Type 0
-FreshHolds = (start end : ℕ) → endsOk start end ≡ true → Fresh start end (freshNet start end)
+FreshHolds = (start end : ℕ) → freshSays start end ≡ freshMeans fresh.Made → Fresh start end (freshGives start end)
+
+-- a refused fresh returns the fresh net of 0 and 1
+abbrev pub FreshRefused : Type 0
+FreshRefused = (start end number place : ℕ) → freshSays start end ≡ freshMeans (fresh.Refused number place) → freshGives start end ≡ freshNet 0 1
 
 -- the second net is the first with m on activity a's side, and nothing else; the value says whether it was new
 pub record Put (net : Net) (side : Side) (a m new : ℕ) (after : Net) : Type 0 where
@@ -40,8 +48,29 @@ pub record Put (net : Net) (side : Side) (a m new : ℕ) (after : Net) : Type 0 
   pub grown-by : netSize after ≡ netSize net + new
 
 abbrev pub PutHolds : Type 0
-PutHolds = (net : Net) (side : Side) (a m : ℕ) → putSays net side a m .ok ≡ true → Put net side a m (putSays net side a m .value) (putGives net side a m)
+PutHolds =
+    (net : Net) (side : Side) (a m : ℕ)
+    → (putSays net side a m ≡ putMeans put.New → Put net side a m 1 (putGives net side a m))
+    × (putSays net side a m ≡ putMeans put.Present → Put net side a m 0 (putGives net side a m))
 
 -- a refused put returns the very record given
 abbrev pub PutRefusedSame : Type 0
-PutRefusedSame = (net : Net) (side : Side) (a m : ℕ) → putSays net side a m .ok ≡ false → putGives net side a m ≡ net
+PutRefusedSame = (net : Net) (side : Side) (a m number place : ℕ) → putSays net side a m ≡ putMeans (put.Refused number place) → putGives net side a m ≡ net
+
+-- containment is answered yes or no by the paper's sentence, of two orderly records
+abbrev pub ContainedSaid : Type 0
+ContainedSaid =
+    (net other : Net)
+    → ((containedSays net other ≡ containedMeans answer.Yes) ↔ (Orderly net × Orderly other × Contained net other))
+    × ((containedSays net other ≡ containedMeans answer.No) ↔ (Orderly net × Orderly other × (Contained net other → ⊥)))
+
+-- ---- the refusals: each call is refused exactly as its sentences are listed, and else accepted
+
+abbrev pub FreshListed : Type 0
+FreshListed = (start end : ℕ) → AsListed (λ n p. freshMeans (fresh.Refused n p)) (freshRefusals start end) (freshSays start end)
+
+abbrev pub PutListed : Type 0
+PutListed = (net : Net) (side : Side) (a m : ℕ) → AsListed (λ n p. putMeans (put.Refused n p)) (putRefusals net side a m) (putSays net side a m)
+
+abbrev pub ContainedListed : Type 0
+ContainedListed = (net other : Net) → AsListed (λ n p. containedMeans (answer.Refused n p)) (containedRefusals net other) (containedSays net other)

@@ -18,7 +18,8 @@ ghost use Rattle.net.specs.Limits.{sets, places};
 ghost use Rattle.net.specs.Lists.{listed, insert, splice};
 ghost use Rattle.net.specs.Sides.{firstOf, sideIn};
 ghost use Rattle.net.specs.Orderly.{orderly};
-ghost use Rattle.net.specs.Put.{misplaced, SideDone, PutDone};
+ghost use Rattle.net.specs.Put.{misplaced, PutDone};
+ghost use Rattle.net.specs.Inner.{SideDone};
 
 // Adds a set to one side of an activity and says whether it was new.
 pub fn put(net: Net, side: Side, activity: u32, set: u32) -> PutResult

@@ -9,7 +9,8 @@ use Rattle.obligations.specs.Limits.{activities}
 use Rattle.net.specs.Refusals.{Says}
 use Rattle.net.specs.Sides.{masksOf, lengthsOf, emptyAt}
 use Rattle.net.specs.Orderly.{orderly}
-use Rattle.net.specs.Put.{putMeans, withSides, SideDone}
+use Rattle.net.specs.Put.{putMeans, withSides}
+use Rattle.net.specs.Inner.{SideDone}
 use Rattle.net.specs.declared.Net.{Net}
 use Rattle.net.specs.declared.Side.{Side}
 use Rattle.net.specs.declared.PutAnswer.{PutAnswer}

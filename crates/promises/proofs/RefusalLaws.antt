@@ -10,7 +10,7 @@ use lib.Dec.{eqb}
 use Rattle.obligations.proofs.SetLaws.{lt-or-le}
 use Rattle.net.specs.Refusals.{Says, accepted, refused}
 use Rattle.net.specs.declared.Net.{Net}
-use Rattle.sequences.specs.Refusing.{unless, noneAt}
+use Rattle.net.specs.Chains.{unless, noneAt}
 use Rattle.sequences.specs.Learn.{newSets}
 use Rattle.promises.specs.Calls.{Call, learn, follow, sequenceOf, says}
 use Rattle.promises.specs.Refusals.{Refusal, is-disorderly, is-too-long, has-no-activity, has-wrong-ends, is-wrongly-empty, is-not-possible, has-left-over, has-full-side, numberOf, Whole, First, Holds, NoneHolds, Listed}

@@ -24,7 +24,7 @@ use Rattle.net.specs.Orderly.{orderly}
 use Rattle.net.specs.Put.{misplaced}
 use Rattle.net.specs.declared.Net.{Net}
 use Rattle.net.proofs.OrderlyLaws.{orderly-facts, facts-orderly}
-use Rattle.sequences.specs.Refusing.{unless, noneAt}
+use Rattle.net.specs.Chains.{unless, noneAt}
 use Rattle.sequences.specs.Limits.{wordsWithin, withinLimits}
 use Rattle.sequences.specs.Gain.{fits}
 use Rattle.sequences.specs.Learn.{emptyAgree, firstWronglyEmpty, learnPositions, learnSays}

@@ -23,7 +23,7 @@ use Rattle.obligations.proofs.TraceLaws.{shaped-ext}
 use Rattle.net.specs.Refusals.{accepted, full-side}
 use Rattle.net.specs.Orderly.{orderly}
 use Rattle.net.specs.declared.Net.{Net}
-use Rattle.sequences.specs.Refusing.{unless}
+use Rattle.net.specs.Chains.{unless}
 use Rattle.sequences.specs.Limits.{limitsMeans, TraceLimitsOf}
 use Rattle.sequences.specs.Gain.{gained, fits}
 use Rattle.sequences.specs.Learn.{newSets, GainDone, RefusedWith}

@@ -22,7 +22,7 @@ use Rattle.obligations.proofs.SequenceLaws.{bindings-words, length-words, compl
 use Rattle.net.specs.Refusals.{Says, accepted, refused}
 use Rattle.net.specs.Orderly.{orderly}
 use Rattle.net.specs.declared.Net.{Net}
-use Rattle.sequences.specs.Refusing.{unless, noneAt}
+use Rattle.net.specs.Chains.{unless, noneAt}
 use Rattle.sequences.specs.Limits.{wordsWithin, traceWithin, withinLimits, traceWithinLimits}
 use Rattle.sequences.specs.Gain.{fits}
 use Rattle.sequences.specs.Learn.{firstWronglyEmpty, newSets, learnPositions, learnSays, learnGives}

@@ -14,7 +14,7 @@ use Rattle.obligations.specs.Trace.{shaped}
 use Rattle.net.specs.Refusals.{accepted, refused, full-side}
 use Rattle.net.specs.Orderly.{orderly}
 use Rattle.net.specs.declared.Net.{Net}
-use Rattle.sequences.specs.Refusing.{unless}
+use Rattle.net.specs.Chains.{unless}
 use Rattle.sequences.specs.Run.{ran}
 use Rattle.sequences.specs.Limits.{limitsMeans, LimitsOf}
 use Rattle.sequences.specs.Gain.{gained, fits}

@@ -11,7 +11,7 @@ use Rattle.obligations.specs.Sequence.{Binding}
 use Rattle.net.specs.Refusals.{Says, accepted, disorderly, wrong-ends, full-side}
 use Rattle.net.specs.Orderly.{orderly}
 use Rattle.net.specs.declared.Net.{Net}
-use Rattle.sequences.specs.Refusing.{unless}
+use Rattle.net.specs.Chains.{unless}
 use Rattle.sequences.specs.Limits.{traceWithinLimits}
 use Rattle.sequences.specs.Gain.{gained, fits}
 use Rattle.sequences.specs.Learn.{learnMeans, newSets}

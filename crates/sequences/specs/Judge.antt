@@ -17,7 +17,7 @@ use Rattle.net.specs.declared.Net.{Net}
 use Rattle.net.specs.declared.Side.{Side}
 use Rattle.net.specs.declared.Side.the-variants.{Input, Output}
 use Rattle.walks.specs.Check.{lost, lowest}
-use Rattle.sequences.specs.Refusing.{unless, noneAt}
+use Rattle.net.specs.Chains.{unless, noneAt}
 use Rattle.sequences.specs.Limits.{withinLimits}
 use Rattle.sequences.specs.Run.{largestTotal, outputSizes}
 use Rattle.sequences.specs.Gain.{setFor}

@@ -13,7 +13,7 @@ use Rattle.net.specs.Refusals.{Says, accepted, refused, disorderly, wrong-ends,
 use Rattle.net.specs.Sides.{netSize}
 use Rattle.net.specs.Orderly.{orderly}
 use Rattle.net.specs.declared.Net.{Net}
-use Rattle.sequences.specs.Refusing.{unless, noneAt}
+use Rattle.net.specs.Chains.{unless, noneAt}
 use Rattle.sequences.specs.Limits.{withinLimits}
 use Rattle.sequences.specs.Gain.{gained, fits}
 use Rattle.sequences.specs.declared.LearnAnswer.{LearnAnswer}

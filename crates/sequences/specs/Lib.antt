@@ -1,5 +1,4 @@
 -- The definitions that the contracts of `sequences` cite, and the statements proved of them.
-pub mod Refusing
 pub mod Run
 pub mod Limits
 pub mod Gain

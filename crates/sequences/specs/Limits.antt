@@ -9,7 +9,7 @@ use Rattle.obligations.specs.Limits.{positions}
 use Rattle.obligations.specs.Trace.{firstNoActivity}
 use Rattle.obligations.specs.Sequence.{bindings, at}
 use Rattle.net.specs.Refusals.{Says, refused, outside-limits, no-activity}
-use Rattle.sequences.specs.Refusing.{unless, noneAt}
+use Rattle.net.specs.Chains.{unless, noneAt}
 use Rattle.sequences.specs.Run.{Positions, TracePositions}
 use Rattle.sequences.specs.declared.Limited.{Limited}
 use Rattle.sequences.specs.declared.Limited.the-variants.{Within, Beyond}
