@@ -46,6 +46,17 @@ chain-grows false true s e = absurd (false-not-true refl e)
 chain-grows false false true e = absurd (false-not-true refl e)
 chain-grows false false false e = (refl, refl, refl)
 
+chain-full : (r s : Bool) → chain false r s .ok ≡ false → (r ≡ false) × (s ≡ true)
+chain-full true s e = absurd (false-not-true e refl)
+chain-full false true e = (refl, refl)
+chain-full false false e = absurd (false-not-true e refl)
+
+chain-value : (q r s : Bool) → chain q r s .value ≤ 1
+chain-value true r s = omega arith
+chain-value false true s = omega arith
+chain-value false false true = omega arith
+chain-value false false false = omega arith
+
 chain-total : (q r s : Bool) (l grown : List ℕ) → total grown ≡ total l + 1 → total (cond (grows (chain q r s)) grown l) ≡ total l + chain q r s .value
 unfolding grows
 chain-total true r s l grown e = omega arith
@@ -75,6 +86,17 @@ module _ (masks lengths : List ℕ) (empty a m : ℕ) where
   pub refused-kept : sideSays masks lengths empty a m .ok ≡ false → grows (sideSays masks lengths empty a m) ≡ false
   unfolding grows
   refused-kept d = rw d
+
+  -- a set that isn't misplaced and is refused finds the side full
+  pub refused-full : misplaced empty a m ≡ false → sideSays masks lengths empty a m .ok ≡ false → (listed m (sideIn masks lengths a) ≡ false) × (getD lengths a 0 ≡ sets)
+  unfolding sideSays
+  refused-full p k =
+      let f = chain-full (listed m (sideIn masks lengths a)) (eqb (getD lengths a 0) sets) (rw p at k) in (f .0, eqb-true (getD lengths a 0) sets (f .1))
+
+  -- a put adds one set at most
+  pub side-value : sideSays masks lengths empty a m .value ≤ 1
+  unfolding sideSays
+  side-value = chain-value (misplaced empty a m) (listed m (sideIn masks lengths a)) (eqb (getD lengths a 0) sets)
 
   -- an accepted set was there already, or is new
   pub accepted-cases : sideSays masks lengths empty a m .ok ≡ true → (listed m (sideIn masks lengths a) ≡ true) ⊎ (grows (sideSays masks lengths empty a m) ≡ true)

@@ -23,7 +23,7 @@ use Rattle.net.specs.declared.Side.the-variants.{Input, Output}
 use Rattle.net.proofs.InsertLaws.{length-insert}
 use Rattle.net.proofs.SideLaws.{OrderlySides, side-at-most, length-side}
 use Rattle.net.proofs.GrownLaws.{grown-side-same, grown-side-other}
-use Rattle.net.proofs.PutSideLaws.{put-side-grown, put-side-kept, accepted-cases, grows-new}
+use Rattle.net.proofs.PutSideLaws.{put-side-grown, put-side-kept, accepted-cases, grows-new, refused-full}
 use Rattle.net.proofs.OrderlyLaws.{orderly-sides}
 use Rattle.sequences.specs.Gain.{withPut, takesPut, withBinding, takesBinding, fits, setFor, joined, sideWith, Fits}
 use Rattle.sequences.proofs.GrowthLaws.{Activities, with-binding-orderly}
@@ -83,15 +83,9 @@ module _ (masks lengths : List ℕ) (empty a m : ℕ) (o : OrderlySides masks le
 
   -- a put that is refused though the set may stand there finds the side full
   put-full : misplaced empty a m ≡ false → sideSays masks lengths empty a m .ok ≡ false → (listed m (sideIn masks lengths a) ≡ false) × (length (sideIn masks lengths a) ≡ 16)
-  unfolding sideSays
   put-full p k =
-      let f = go (listed m (sideIn masks lengths a)) (eqb (getD lengths a 0) 16) (rw p at k) in
-      (f .0, length-side masks lengths a (o .masks-long) h (side-at-most masks lengths empty o a h) ∙ eqb-true (getD lengths a 0) 16 (f .1))
-    where
-      go : (q r : Bool) → cond q (accepted 0) (cond r (refused 12 0) (accepted 1)) .ok ≡ false → (q ≡ false) × (r ≡ true)
-      go true r e = absurd (false-not-true e refl)
-      go false true e = (refl, refl)
-      go false false e = absurd (false-not-true e refl)
+      let f = refused-full masks lengths empty a m p k in
+      (f .0, length-side masks lengths a (o .masks-long) h (side-at-most masks lengths empty o a h) ∙ f .1)
 
 -- ---- one position on a side's list
 

@@ -18,7 +18,7 @@ use Rattle.net.specs.Put.{misplaced, sideSays, putMasks, putLengths}
 use Rattle.net.specs.declared.Net.{Net}
 use Rattle.net.specs.declared.Side.the-variants.{Input, Output}
 use Rattle.net.proofs.SideLaws.{OrderlySides}
-use Rattle.net.proofs.PutSideLaws.{put-side-total, put-side-orderly}
+use Rattle.net.proofs.PutSideLaws.{put-side-total, put-side-orderly, side-value}
 use Rattle.net.proofs.OrderlyLaws.{orderly-sides}
 use Rattle.sequences.specs.Gain.{withPut, takesPut, withBinding, takesBinding, gained, fits, gainedBy}
 use Rattle.sequences.specs.Learn.{GainDone, RefusedWith, newSets}
@@ -31,16 +31,6 @@ netWith net inputs inputLen outputs outputLen =
     record { start = net .start; end = net .end; inputs = inputs; outputs = outputs; «input_len» = inputLen; «output_len» = outputLen }
 
 -- ---- what a put adds
-
-side-value : (masks lengths : List ℕ) (empty a m : ℕ) → sideSays masks lengths empty a m .value ≤ 1
-unfolding sideSays
-side-value masks lengths empty a m = go (misplaced empty a m) (listed m (sideIn masks lengths a)) (eqb (getD lengths a 0) 16)
-  where
-    go : (p q r : Bool) → cond p (refused 5 0) (cond q (accepted 0) (cond r (refused 12 0) (accepted 1))) .value ≤ 1
-    go true q r = omega arith
-    go false true r = omega arith
-    go false false true = omega arith
-    go false false false = omega arith
 
 no-room : (says : Says) → gainedBy says ≡ NoRoom → says .ok ≡ false
 unfolding gainedBy
