@@ -1,6 +1,7 @@
 -- The step said of each pair (p, q), as 000's ψ says it, and possible said of each member. The places of a binding's inputs
--- are one row of the state and those of its outputs one column, so a pair is selected as often as a bit says. Assumes nothing.
-use Prim.Native.Nat.{ℕ, _+_, _-_, _*_, _^_, _≤_, _<_}
+-- are one row of the state and those of its outputs one column, so a pair is selected as often as a bit says. Every place of a
+-- state is that of one pair of activities, so that all counts are zero exactly if those of all pairs are. Assumes nothing.
+use Prim.Native.Nat.{ℕ, _+_, _-_, _*_, _/_, _%_, _≤_, _<_}
 use mathlib.Core.Path.{_≡_, ap, ap₂, subst, _∙_}
 use mathlib.Core.Logic.{⊎-elim}
 use mathlib.Core.Bool.{true, _&&_}
@@ -11,9 +12,10 @@ use lib.Dec.{eqb, lit<}
 use lib.ListN.{length, getD}
 use Rattle.obligations.specs.Sets.{member}
 use Rattle.obligations.specs.State.{count, inputs, outputs, possible, after, allZero}
+use Rattle.obligations.specs.Sequence.{NothingLeft}
 use Rattle.obligations.specs.Tests.{indicator}
 use Rattle.obligations.proofs.BitLaws.{same, same-cases}
-use Rattle.obligations.proofs.SetLaws.{member-bit, bit-member, bit-indicator, member-activity}
+use Rattle.obligations.proofs.SetLaws.{member-bit, bit-member, bit-indicator}
 use Rattle.obligations.proofs.PlaceLaws.{occ, places-at, places-off, places-found, due-at, due-all}
 use Rattle.obligations.proofs.StateLaws.{after-at, zero-at, at-zero}
 
@@ -52,26 +54,27 @@ after-count d a x y p q l ha hp hq =
 
 -- ---- possible, said of each member of x
 
-pub possible-count : (d : List ℕ) (a x : ℕ) → x < 2 ^ 32 → possible d a x ≡ true → (p : ℕ) → member x p ≡ true → 1 ≤ count d p a
+pub possible-count : (d : List ℕ) (a x : ℕ) → possible d a x ≡ true → (p : ℕ) → p < 32 → member x p ≡ true → 1 ≤ count d p a
 unfolding possible count inputs
-possible-count d a x hx e p hm =
-    let o = places-at (a * 32) 1 (lit< tt) x p (member-activity x p hx hm) ∙ member-bit x p hm in
+possible-count d a x e p hp hm =
+    let o = places-at (a * 32) 1 (lit< tt) x p hp ∙ member-bit x p hm in
     let c = due-at d (inputs a x) e (a * 32 + p * 1) (omega arith) in
     subst (λ (j : ℕ). 1 ≤ getD d j 0) (omega arith) c
 
-pub count-possible : (d : List ℕ) (a x : ℕ) → ((p : ℕ) → member x p ≡ true → 1 ≤ count d p a) → possible d a x ≡ true
+pub count-possible : (d : List ℕ) (a x : ℕ) → ((p : ℕ) → p < 32 → member x p ≡ true → 1 ≤ count d p a) → possible d a x ≡ true
 unfolding possible count inputs
 count-possible d a x h = due-all d (inputs a x) (λ j o.
     let f = places-found (a * 32) 1 x j o in
     let e = f .2 in
-    subst (λ (i : ℕ). 1 ≤ getD d i 0) (omega arith) (h (f .0) (bit-member x (f .0) (f .3))))
+    subst (λ (i : ℕ). 1 ≤ getD d i 0) (omega arith) (h (f .0) (f .1) (bit-member x (f .0) (f .3))))
 
 -- ---- all counts zero, said of each pair
 
-pub zero-count : (d : List ℕ) → allZero d ≡ true → (p q : ℕ) → count d p q ≡ 0
+pub zero-count : (d : List ℕ) → allZero d ≡ true → NothingLeft d
 unfolding count
-zero-count d e p q = zero-at d e (q * 32 + p)
+zero-count d e p q hp hq = zero-at d e (q * 32 + p)
 
-pub count-zero : (d : List ℕ) → ((p q : ℕ) → count d p q ≡ 0) → allZero d ≡ true
+-- the place i is that of the pair (i % 32, i / 32)
+pub count-zero : (d : List ℕ) → length d ≡ 1024 → NothingLeft d → allZero d ≡ true
 unfolding count
-count-zero d h = at-zero d (λ i l. subst (λ (j : ℕ). getD d j 0 ≡ 0) (omega arith) (h i 0))
+count-zero d long h = at-zero d (λ i l. subst (λ (j : ℕ). getD d j 0 ≡ 0) (omega arith) (h (i % 32) (i / 32) (omega arith) (omega arith)))

@@ -21,7 +21,7 @@ module _ (m : ℕ) (some : 0 < m) (small : m < 2 ^ 32) where
   lowest-activity = lowest-digit 32 m some small .0
 
   pub lowest-member : member m (trailingZeros 32 m) ≡ true
-  lowest-member = members-are m (trailingZeros 32 m) small .0 (rw (members-walk m some small) (List·Memᴰ·head refl))
+  lowest-member = members-are m (trailingZeros 32 m) .0 (rw (members-walk m some small) (List·Memᴰ·head refl)) .1
 
 no-bit-below : (n m k : ℕ) → k < trailingZeros n m → bit m k ≡ 0
 unfolding trailingZeros

@@ -16,7 +16,7 @@ use Rattle.obligations.specs.Tests.{number}
 use Rattle.obligations.specs.Sets.{bit, member, single, keep, membersFrom, members, size}
 use Rattle.obligations.proofs.TestLaws.{number-ext, number-first}
 use Rattle.obligations.proofs.BitLaws.{half-lt, parity, bit-zero, bit-suc}
-use Rattle.obligations.proofs.SetLaws.{member-bit, bit-member, bit-indicator, member-suc, member-activity}
+use Rattle.obligations.proofs.SetLaws.{member-bit, bit-member, bit-indicator, member-suc}
 
 -- ---- the walk
 
@@ -155,15 +155,19 @@ kept : (b k : ℕ) (ks : List ℕ) → b ≡ 1 → List·Memᴰ k (keep b k ks)
 unfolding keep
 kept b k ks e = rw e (List·Memᴰ·head refl)
 
-listed : (n k m j : ℕ) → List·Memᴰ j (membersFrom n k m) → (p : ℕ) × (j ≡ k + p) × (bit m p ≡ 1)
+listed : (n k m j : ℕ) → List·Memᴰ j (membersFrom n k m) → (p : ℕ) × (p < n) × (j ≡ k + p) × (bit m p ≡ 1)
 unfolding membersFrom
 listed zero k m j h = absurd (List·Memᴰ·not-nil h)
 listed (suc n) k m j h =
-    ⊎-elim (λ w. (0, omega arith, bit-zero m ∙ one (w .0))) (λ t. let f = listed n (suc k) (m / 2) j t in (suc (f .0), next (f .0) (f .1), bit-suc m (f .0) ∙ f .2))
+    ⊎-elim (λ w. (0, omega arith, omega arith, bit-zero m ∙ one (w .0)))
+    (λ t. let f = listed n (suc k) (m / 2) j t in (suc (f .0), less (f .1), next (f .0) (f .2), bit-suc m (f .0) ∙ f .3))
     (in-keep (m % 2) k (membersFrom n (suc k) (m / 2)) j h)
   where
     one : (m % 2 ≡ 0 → ⊥) → m % 2 ≡ 1
     one ne = omega (arith, mod-lt m {m = 2} (lit< tt))
+
+    less : {p : ℕ} → p < n → suc p < suc n
+    less l = omega arith
 
     next : (p : ℕ) → j ≡ suc k + p → j ≡ k + suc p
     next p e = omega arith
@@ -176,16 +180,16 @@ lists (suc n) k m (suc p) h e =
     let q : k + suc p ≡ suc k + p = omega arith in
     rw q (keep-in (m % 2) k (membersFrom n (suc k) (m / 2)) (suc k + p) (lists n (suc k) (m / 2) p (omega arith) (sym (bit-suc m p) ∙ e)))
 
-pub members-are : (m k : ℕ) → m < 2 ^ 32 → List·Memᴰ k (members m) ↔ (member m k ≡ true)
+pub members-are : (m k : ℕ) → List·Memᴰ k (members m) ↔ ((k < 32) × (member m k ≡ true))
 unfolding members
-members-are m k h = (
-  (λ t. let f = listed 32 0 m k t in bit-member m k (let e : k ≡ f .0 = omega (arith, f .1) in rw e (f .2))),
-  (λ e. rw (← zero-add k) (lists 32 0 m k (member-activity m k h e) (member-bit m k e))),
+members-are m k = (
+  (λ t. let f = listed 32 0 m k t in let e : k ≡ f .0 = omega (arith, f .2) in (rw e (f .1), bit-member m k (rw e (f .3)))),
+  (λ w. rw (← zero-add k) (lists 32 0 m k (w .0) (member-bit m k (w .1)))),
 )
 
 -- a set that isn't empty has a member
 pub some-member : (m : ℕ) → 0 < m → m < 2 ^ 32 → (k : ℕ) × (member m k ≡ true)
-some-member m p h = (trailingZeros 32 m, members-are m (trailingZeros 32 m) h .0 (rw (members-walk m p h) (List·Memᴰ·head refl)))
+some-member m p h = (trailingZeros 32 m, members-are m (trailingZeros 32 m) .0 (rw (members-walk m p h) (List·Memᴰ·head refl)) .1)
 
 -- ---- no member, and one
 

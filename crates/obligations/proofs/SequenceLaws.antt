@@ -1,6 +1,6 @@
 -- Laws of sequences: words and bindings, the state after one position more, how far its counts can grow, and the tests of
 -- `possible` and of the last state said of every position. Assumes nothing.
-use Prim.Native.Nat.{ℕ, zero, suc, _+_, _*_, _^_, _<_}
+use Prim.Native.Nat.{ℕ, zero, suc, _+_, _*_, _<_}
 use mathlib.Core.Path.{_≡_, refl, ap, subst}
 use mathlib.Core.Logic.{⊎-elim, _↔_}
 use mathlib.Core.Bool.{true, _&&_}
@@ -9,11 +9,11 @@ use native.Mathlib.Numerals.{add-one}
 use native.Mathlib.Omega.{arith}
 use lib.ListN.{length, getD, take}
 use lib.Seq.{take-suc}
-use Rattle.obligations.specs.State.{nothing, count, possible, after, allZero, State}
-use Rattle.obligations.specs.Sequence.{Binding, bindings, words, at, run, ψ, Possible, possibleAt, firstImpossible, completes}
+use Rattle.obligations.specs.State.{nothing, possible, after, allZero, State}
+use Rattle.obligations.specs.Sequence.{Binding, bindings, words, at, run, ψ, Possible, NothingLeft, possibleAt, firstImpossible, completes}
 use Rattle.obligations.proofs.BoolLaws.{and-left, and-right, and-both, true-or-false, false-not-true}
 use Rattle.obligations.proofs.StateLaws.{after-state, nothing-state}
-use Rattle.obligations.specs.Statements.{InputsAreMasks, EachPossible, ImpossibleAfter}
+use Rattle.obligations.specs.Statements.{EachPossible, ImpossibleAfter}
 use Rattle.obligations.proofs.CountLaws.{possible-count, count-possible, zero-count, count-zero}
 use Rattle.obligations.proofs.PositionLaws.{AllPass, FailsFirst, pass-first, first-pass, fails-first, first-fails}
 
@@ -98,10 +98,10 @@ pub ψ-state : (s : List Binding) → State (length s) (ψ s)
 
 -- ---- each binding possible after those before it
 
-pub possible-at : (s : List Binding) (i : ℕ) → at s i .input < 2 ^ 32 → (possibleAt s i ≡ true) ↔ Possible (ψ (take i s)) (at s i)
+pub possible-at : (s : List Binding) (i : ℕ) → (possibleAt s i ≡ true) ↔ Possible (ψ (take i s)) (at s i)
 unfolding possibleAt
-possible-at s i h =
-    (possible-count (ψ (take i s)) (at s i .activity) (at s i .input) h, count-possible (ψ (take i s)) (at s i .activity) (at s i .input))
+possible-at s i =
+    (possible-count (ψ (take i s)) (at s i .activity) (at s i .input), count-possible (ψ (take i s)) (at s i .activity) (at s i .input))
 
 pub pass-impossible : (s : List Binding) → AllPass (length s) (possibleAt s) → firstImpossible s ≡ 0
 unfolding firstImpossible
@@ -111,24 +111,24 @@ pub fails-impossible : (s : List Binding) (i : ℕ) → FailsFirst (length s) (p
 unfolding firstImpossible
 fails-impossible s i f = fails-first (length s) (possibleAt s) i f
 
-pub none-impossible : (s : List Binding) → InputsAreMasks s → (firstImpossible s ≡ 0) ↔ EachPossible s
+pub none-impossible : (s : List Binding) → (firstImpossible s ≡ 0) ↔ EachPossible s
 unfolding firstImpossible
-none-impossible s m = (
-  (λ e i l. possible-at s i (m i l) .0 (first-pass (length s) (possibleAt s) e i l)),
-  (λ h. pass-first (length s) (possibleAt s) (λ i l. possible-at s i (m i l) .1 (h i l))),
+none-impossible s = (
+  (λ e i l. possible-at s i .0 (first-pass (length s) (possibleAt s) e i l)),
+  (λ h. pass-first (length s) (possibleAt s) (λ i l. possible-at s i .1 (h i l))),
 )
 
-pub first-impossible : (s : List Binding) → InputsAreMasks s → (i : ℕ) → (firstImpossible s ≡ suc i) ↔ ImpossibleAfter s i
+pub first-impossible : (s : List Binding) (i : ℕ) → (firstImpossible s ≡ suc i) ↔ ImpossibleAfter s i
 unfolding firstImpossible
-first-impossible s m i = (after-others, back)
+first-impossible s i = (after-others, back)
   where
     after-others : firstImpossible s ≡ suc i → ImpossibleAfter s i
     after-others e =
         let f = first-fails (length s) (possibleAt s) i e in
         record {
           inside = f .inside;
-          before-possible = λ j l. possible-at s j (m j (omega (arith, f .inside))) .0 (f .before j l);
-          own-not = λ p. false-not-true (f .fails) (possible-at s i (m i (f .inside)) .1 p);
+          before-possible = λ j l. possible-at s j .0 (f .before j l);
+          own-not = λ p. false-not-true (f .fails) (possible-at s i .1 p);
         }
 
     back : ImpossibleAfter s i → firstImpossible s ≡ suc i
@@ -136,8 +136,8 @@ first-impossible s m i = (after-others, back)
         fails-first (length s) (possibleAt s) i
         (record {
           inside = f .inside;
-          before = λ j l. possible-at s j (m j (omega (arith, f .inside))) .1 (f .before-possible j l);
-          fails = ⊎-elim (λ t. absurd (f .own-not (possible-at s i (m i (f .inside)) .0 t))) (λ e. e) (true-or-false (possibleAt s i));
+          before = λ j l. possible-at s j .1 (f .before-possible j l);
+          fails = ⊎-elim (λ t. absurd (f .own-not (possible-at s i .0 t))) (λ e. e) (true-or-false (possibleAt s i));
         })
 
 -- ---- completing, said of every position and of the last state
@@ -179,9 +179,13 @@ unfolding completes run
 each-completes d [] h z = z
 each-completes d (b ∷ s) h z = and-both (h 0 (omega arith)) (each-completes (fired d b) s (λ i l. h (suc i) (omega arith)) z)
 
-pub completes-both : (s : List Binding) → InputsAreMasks s → (completes nothing s ≡ true) ↔ (EachPossible s × ((p q : ℕ) → count (ψ s) p q ≡ 0))
+-- the last state is all zero: the test is the fact
+pub zero-left : (s : List Binding) → (allZero (ψ s) ≡ true) ↔ NothingLeft (ψ s)
+zero-left s = (zero-count (ψ s), count-zero (ψ s) (ψ-state s .long))
+
+pub completes-both : (s : List Binding) → (completes nothing s ≡ true) ↔ (EachPossible s × NothingLeft (ψ s))
 unfolding possibleAt
-completes-both s m = (
-  (λ e. ((λ i l. possible-at s i (m i l) .0 (completes-each nothing s e i l)), zero-count (ψ s) (completes-zero nothing s e))),
-  (λ w. each-completes nothing s (λ i l. possible-at s i (m i l) .1 (w .0 i l)) (count-zero (ψ s) (w .1))),
+completes-both s = (
+  (λ e. ((λ i l. possible-at s i .0 (completes-each nothing s e i l)), zero-left s .0 (completes-zero nothing s e))),
+  (λ w. each-completes nothing s (λ i l. possible-at s i .1 (w .0 i l)) (zero-left s .1 (w .1))),
 )

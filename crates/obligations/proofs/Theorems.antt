@@ -11,7 +11,7 @@ pub step-is-ψ : StepIsψ
 step-is-ψ = after-count
 
 pub possible-is-every : PossibleIsEvery
-possible-is-every d a x h = (possible-count d a x h, count-possible d a x)
+possible-is-every d a x = (possible-count d a x, count-possible d a x)
 
 pub undo-undoes : UndoUndoes
 undo-undoes = before-after
@@ -23,7 +23,7 @@ pub total-is-zero : TotalZero
 total-is-zero d = (total-zero d, zero-total d)
 
 pub all-zero-is-every : AllZeroIsEvery
-all-zero-is-every d = (zero-count d, count-zero d)
+all-zero-is-every d long = (zero-count d, count-zero d long)
 
 pub members-are-listed : MembersAreListed
 members-are-listed = members-are

@@ -42,9 +42,13 @@ run d (b ∷ s) = run (after d (b .activity) (b .input) (b .output)) s
 abbrev pub ψ : List Binding → List ℕ
 ψ s = run nothing s
 
--- the binding b is possible in the state d: for every p in its input set, its activity is due because of p
+-- the binding b is possible in the state d: for every activity p in its input set, its activity is due because of p
 abbrev pub Possible : List ℕ → Binding → Type 0
-Possible d b = (p : ℕ) → member (b .input) p ≡ true → 1 ≤ count d p (b .activity)
+Possible d b = (p : ℕ) → p < activities → member (b .input) p ≡ true → 1 ≤ count d p (b .activity)
+
+-- nothing is left in the state d: for each pair of activities the count is zero
+abbrev pub NothingLeft : List ℕ → Type 0
+NothingLeft d = (p q : ℕ) → p < activities → q < activities → count d p q ≡ 0
 
 -- well-formed for a start and an end. i is the number of positions before the one spoken of.
 pub record WellFormed (start end : ℕ) (s : List Binding) : Type 0 where
@@ -53,7 +57,7 @@ pub record WellFormed (start end : ℕ) (s : List Binding) : Type 0 where
   pub input-empty-first-only : (i : ℕ) → i < length s → (at s i .input ≡ 0) ↔ (i ≡ 0)
   pub output-empty-last-only : (i : ℕ) → i < length s → (at s i .output ≡ 0) ↔ (i + 1 ≡ length s)
   pub each-possible : (i : ℕ) → i < length s → Possible (ψ (take i s)) (at s i)
-  pub nothing-left : (p q : ℕ) → count (ψ s) p q ≡ 0
+  pub nothing-left : NothingLeft (ψ s)
 
 -- the binding with i others before it is possible after those
 unfoldable pub possibleAt : List Binding → ℕ → Bool

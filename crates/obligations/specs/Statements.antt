@@ -7,12 +7,12 @@ use mathlib.Core.List.{List, List·Memᴰ}
 use mathlib.Core.Logic.{_↔_}
 use lib.Dec.{eqb}
 use lib.ListN.{length, take}
-use Rattle.obligations.specs.Limits.{activities, masks, pairs}
+use Rattle.obligations.specs.Limits.{activities, pairs}
 use Rattle.obligations.specs.Tests.{indicator, number}
 use Rattle.obligations.specs.Sets.{member, members, size}
 use Rattle.obligations.specs.State.{count, nothing, possible, after, before, allZero, total, State}
 use Rattle.obligations.specs.Trace.{shaped, Shaped}
-use Rattle.obligations.specs.Sequence.{Binding, bindings, words, at, ψ, Possible, firstImpossible, completes}
+use Rattle.obligations.specs.Sequence.{Binding, bindings, words, at, ψ, Possible, NothingLeft, firstImpossible, completes}
 
 -- 000, Definition 3: ψ after a binding, at each pair (p, q)
 abbrev pub StepIsψ : Type 0
@@ -20,9 +20,9 @@ StepIsψ =
     (d : List ℕ) (a x y p q : ℕ) → length d ≡ pairs → a < activities → p < activities → q < activities
     → count (after d a x y) p q ≡ (count d p q - indicator (eqb q a && member x p)) + indicator (eqb p a && member y q)
 
--- possible: for every p in x, (p, a) has a count of at least 1
+-- possible: for every activity p in x, (p, a) has a count of at least 1
 abbrev pub PossibleIsEvery : Type 0
-PossibleIsEvery = (d : List ℕ) (a x : ℕ) → x < masks → (possible d a x ≡ true) ↔ ((p : ℕ) → member x p ≡ true → 1 ≤ count d p a)
+PossibleIsEvery = (d : List ℕ) (a x : ℕ) → (possible d a x ≡ true) ↔ ((p : ℕ) → p < activities → member x p ≡ true → 1 ≤ count d p a)
 
 -- undoing a possible step gives the state before it
 abbrev pub UndoUndoes : Type 0
@@ -38,18 +38,14 @@ abbrev pub TotalZero : Type 0
 TotalZero = (d : List ℕ) → (total d ≡ 0) ↔ (allZero d ≡ true)
 
 abbrev pub AllZeroIsEvery : Type 0
-AllZeroIsEvery = (d : List ℕ) → (allZero d ≡ true) ↔ ((p q : ℕ) → count d p q ≡ 0)
+AllZeroIsEvery = (d : List ℕ) → length d ≡ pairs → (allZero d ≡ true) ↔ NothingLeft d
 
--- a set's members are those listed, and its size is the number of activities that are members
+-- the activities that are members of a set are those listed, and its size is their number
 abbrev pub MembersAreListed : Type 0
-MembersAreListed = (m k : ℕ) → m < masks → List·Memᴰ k (members m) ↔ (member m k ≡ true)
+MembersAreListed = (m k : ℕ) → List·Memᴰ k (members m) ↔ ((k < activities) × (member m k ≡ true))
 
 abbrev pub SizeIsNumber : Type 0
 SizeIsNumber = (m : ℕ) → size m ≡ number activities (member m)
-
--- each input set of a sequence is a mask
-abbrev pub InputsAreMasks : List Binding → Type 0
-InputsAreMasks s = (i : ℕ) → i < length s → at s i .input < masks
 
 -- each binding of a sequence is possible after those before it
 abbrev pub EachPossible : List Binding → Type 0
@@ -57,7 +53,7 @@ EachPossible s = (i : ℕ) → i < length s → Possible (ψ (take i s)) (at s i
 
 -- the first position at which a binding isn't possible is 0 exactly if each is possible after those before it ..
 abbrev pub NoneImpossible : Type 0
-NoneImpossible = (s : List Binding) → InputsAreMasks s → (firstImpossible s ≡ 0) ↔ EachPossible s
+NoneImpossible = (s : List Binding) → (firstImpossible s ≡ 0) ↔ EachPossible s
 
 -- .. and else it is the position after i others of which each is possible, while its own binding isn't
 pub record ImpossibleAfter (s : List Binding) (i : ℕ) : Type 0 where
@@ -66,11 +62,11 @@ pub record ImpossibleAfter (s : List Binding) (i : ℕ) : Type 0 where
   pub own-not : Possible (ψ (take i s)) (at s i) → ⊥
 
 abbrev pub FirstIsImpossible : Type 0
-FirstIsImpossible = (s : List Binding) → InputsAreMasks s → (i : ℕ) → (firstImpossible s ≡ suc i) ↔ ImpossibleAfter s i
+FirstIsImpossible = (s : List Binding) (i : ℕ) → (firstImpossible s ≡ suc i) ↔ ImpossibleAfter s i
 
 -- a sequence completes from nothing exactly if each binding is possible after those before it and nothing is left
 abbrev pub CompletesIsBoth : Type 0
-CompletesIsBoth = (s : List Binding) → InputsAreMasks s → (completes nothing s ≡ true) ↔ (EachPossible s × ((p q : ℕ) → count (ψ s) p q ≡ 0))
+CompletesIsBoth = (s : List Binding) → (completes nothing s ≡ true) ↔ (EachPossible s × NothingLeft (ψ s))
 
 -- a count never exceeds the number of positions so far
 abbrev pub CountsStaySmall : Type 0

@@ -15,7 +15,7 @@ use Rattle.net.specs.declared.Side.the-variants.{Input, Output}
 use Rattle.walks.specs.Below.{anyBelow, sumBelow, withIf, thoseBelow, those}
 use Rattle.walks.specs.Arcs.{named, names, arc, arcs}
 use Rattle.walks.specs.Rows.{rowsFrom, rows, unionFrom, grown, rounds, reach}
-use Rattle.walks.specs.Check.{onSides, inNet, successors, predecessors, outside, lost, lowest, lostSays, checkSays}
+use Rattle.walks.specs.Check.{onSides, inNet, successors, predecessors, outside, lost, lowestMember, onWalks, checkSays}
 
 -- a net with sets put on one side
 puts : Net → Side → ℕ → List ℕ → Net
@@ -39,5 +39,5 @@ loop : Net
 loop = puts (puts (puts (puts (freshNet 0 2) Output 0 (2 ∷ [])) Input 1 (1 ∷ 2 ∷ [])) Output 1 (2 ∷ 4 ∷ [])) Input 2 (2 ∷ [])
 
 says : map checkSays (F ∷ named-only ∷ twice ∷ loop ∷ freshNet 7 3 ∷ freshNet 3 3 ∷ []) ≡ accepted 4 ∷ refused 6 5 ∷ accepted 4 ∷ accepted 3 ∷ refused 6 3 ∷ refused 2 0 ∷ []
-unfolding F named-only twice loop puts freshNet putGives grows putSays sideSays misplaced insert listed checkSays lostSays lowest lost outside successors predecessors inNet onSides reach rounds grown unionFrom rows rowsFrom arcs arc names named those thoseBelow withIf sumBelow number anyBelow orderly sized endsOk sidesOk blockOk allBelow ascendsAbove zeros members membersFrom keep union single member bit
+unfolding F named-only twice loop puts freshNet putGives grows putSays sideSays misplaced insert listed checkSays onWalks lowestMember lost outside successors predecessors inNet onSides reach rounds grown unionFrom rows rowsFrom arcs arc names named those thoseBelow withIf sumBelow number anyBelow orderly sized endsOk sidesOk blockOk allBelow ascendsAbove zeros members membersFrom keep union single member bit
 says = refl

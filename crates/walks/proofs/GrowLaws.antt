@@ -32,4 +32,4 @@ module _ (net other : Net) (o : Orderly net) (c : Contained net other) where
   in-net-grows a (the-start e) = the-start (e ∙ c .same-start)
   in-net-grows a (the-end e) = the-end (e ∙ c .same-end)
   in-net-grows a (with-a-set side m h) = with-a-set side m (c .among side a m (on-side-activity net (facts-orderly net o) side a m h) h)
-  in-net-grows a (in-a-set side b n) = in-a-set side b (names-grow side b a n)
+  in-net-grows a (in-a-set side b l n) = in-a-set side b l (names-grow side b a n)

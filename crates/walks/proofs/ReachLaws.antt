@@ -13,7 +13,7 @@ use lib.Dec.{eqb, lit<}
 use lib.ListN.{getD}
 use Rattle.obligations.specs.Sets.{member, single, union, minus, members, size}
 use Rattle.obligations.proofs.BoolLaws.{false-not-true, same-test, or-left, or-right, or-cases}
-use Rattle.obligations.proofs.SetLaws.{member-none, member-union, member-with, single-lt, union-lt, set-ext, single-has, single-only, minus-some}
+use Rattle.obligations.proofs.SetLaws.{member-none, member-activity, member-union, member-with, single-lt, union-lt, set-ext, single-has, single-only, minus-some}
 use Rattle.obligations.proofs.MemberLaws.{members-are, size-none, size-le}
 use Rattle.walks.specs.Arcs.{named}
 use Rattle.walks.specs.Walk.{Along, here}
@@ -48,16 +48,15 @@ module _ (next : List ℕ) where
     unfolding grown
     grown-keeps k e = member-union-from seen (rowsAt next (members seen)) k ∙ or-left (named (rowsAt next (members seen)) k) e
 
-    module _ (h : seen < 2 ^ 32) where
-      pub grown-adds : (p q : ℕ) → member seen p ≡ true → Has next p q → member (grown next seen) q ≡ true
-      unfolding grown
-      grown-adds p q e s = member-union-from seen (rowsAt next (members seen)) q ∙ or-right (member seen q) (rows-named (members seen) p q (members-are seen p h .1 e) s)
+    pub grown-adds : seen < 2 ^ 32 → (p q : ℕ) → member seen p ≡ true → Has next p q → member (grown next seen) q ≡ true
+    unfolding grown
+    grown-adds h p q e s = member-union-from seen (rowsAt next (members seen)) q ∙ or-right (member seen q) (rows-named (members seen) p q (members-are seen p .1 (member-activity seen p h e, e)) s)
 
-      pub grown-only : (k : ℕ) → member (grown next seen) k ≡ true → (member seen k ≡ true) ⊎ ((p : ℕ) × (member seen p ≡ true) × Has next p k)
-      unfolding grown
-      grown-only k e =
-          ⊎-elim inl (λ t. let w = named-rows (members seen) k t in inr (w .0, members-are seen (w .0) h .0 (w .1), w .2))
-          (or-cases (member seen k) (named (rowsAt next (members seen)) k) (sym (member-union-from seen (rowsAt next (members seen)) k) ∙ e))
+    pub grown-only : (k : ℕ) → member (grown next seen) k ≡ true → (member seen k ≡ true) ⊎ ((p : ℕ) × (member seen p ≡ true) × Has next p k)
+    unfolding grown
+    grown-only k e =
+        ⊎-elim inl (λ t. let w = named-rows (members seen) k t in inr (w .0, members-are seen (w .0) .0 (w .1) .1, w .2))
+        (or-cases (member seen k) (named (rowsAt next (members seen)) k) (sym (member-union-from seen (rowsAt next (members seen)) k) ∙ e))
 
   module _ (small : Small next) where
     spread-lt : (m : ℕ) (ks : List ℕ) → m < 2 ^ 32 → unionFrom m (rowsAt next ks) < 2 ^ 32
@@ -82,12 +81,12 @@ module _ (next : List ℕ) where
     rounds-keep (suc n) seen k e = rounds-keep n (grown next seen) k (grown-keeps seen k e)
 
     -- sound: what is in the set after the rounds is steps away from the first
-    rounds-sound : (from n seen : ℕ) → seen < 2 ^ 32 → ((k : ℕ) → member seen k ≡ true → Along (Has next) from k) → (k : ℕ) → member (rounds n next seen) k ≡ true → Along (Has next) from k
+    rounds-sound : (from n seen : ℕ) → ((k : ℕ) → member seen k ≡ true → Along (Has next) from k) → (k : ℕ) → member (rounds n next seen) k ≡ true → Along (Has next) from k
     unfolding rounds
-    rounds-sound from zero seen h s k e = s k e
-    rounds-sound from (suc n) seen h s k e =
-        rounds-sound from n (grown next seen) (grown-lt seen h)
-        (λ j t. ⊎-elim (λ u. s j u) (λ w. along-join (s (w .0) (w .1)) (along-one (w .2))) (grown-only seen h j t)) k e
+    rounds-sound from zero seen s k e = s k e
+    rounds-sound from (suc n) seen s k e =
+        rounds-sound from n (grown next seen)
+        (λ j t. ⊎-elim (λ u. s j u) (λ w. along-join (s (w .0) (w .1)) (along-one (w .2))) (grown-only seen j t)) k e
 
     rounds-still : (n seen : ℕ) → grown next seen ≡ seen → rounds n next seen ≡ seen
     unfolding rounds
@@ -134,7 +133,7 @@ module _ (next : List ℕ) where
 
       pub reach-sound : (k : ℕ) → member (reach next from) k ≡ true → Along (Has next) from k
       unfolding reach
-      reach-sound k e = rounds-sound from _ (single from) (single-lt from) (λ j t. subst (Along (Has next) from) (single-only from j t) here) k e
+      reach-sound k e = rounds-sound from _ (single from) (λ j t. subst (Along (Has next) from) (single-only from j t) here) k e
 
       -- a closed set that has the first has all that steps lead to
       pub closed-has : (s : ℕ) → Closed next s → member s from ≡ true → (k : ℕ) → Along (Has next) from k → member s k ≡ true

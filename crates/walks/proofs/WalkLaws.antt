@@ -98,10 +98,10 @@ module _ (net : Net) (o : orderly net ≡ true) where
       (λ e. absurd (false-not-true (none-listed (setsOn net side a) m (sets-length net o side a (on-side-activity net o side a m h) ∙ eqb-true (getD (lengthsOf net side) a 0) 0 e)) h))
       (λ e. rw e) (true-or-false (eqb (getD (lengthsOf net side) a 0) 0))
 
-  sides-in : (side : Side) (a : ℕ) → onSides net side a ≡ true → InNet net a
+  sides-in : (side : Side) (a : ℕ) → a < 32 → onSides net side a ≡ true → InNet net a
   unfolding onSides
-  sides-in side a e =
-      ⊎-elim (λ h. let w = has-set side a h in with-a-set side (w .0) (w .1)) (λ h. let w = any-true (λ b. names net side b a) 32 h in in-a-set side (w .0) (names-facts net side (w .0) a .0 (w .2)))
+  sides-in side a l e =
+      ⊎-elim (λ h. let w = has-set side a h in with-a-set side (w .0) (w .1)) (λ h. let w = any-true (λ b. names net side b a) 32 h in in-a-set side (w .0) l (names-facts net side (w .0) a .0 (w .2)))
       (or-cases (not (eqb (getD (lengthsOf net side) a 0) 0)) (anyBelow 32 (λ b. names net side b a)) e)
 
   on-either : (side : Side) (a : ℕ) → onSides net side a ≡ true → inNet net a ≡ true
@@ -109,12 +109,12 @@ module _ (net : Net) (o : orderly net ≡ true) where
   on-either Input a e = or-right (eqb (net .start) a || eqb (net .end) a) (or-left (onSides net Output a) e)
   on-either Output a e = or-right (eqb (net .start) a || eqb (net .end) a) (or-right (onSides net Input a) e)
 
-  test-in : (a : ℕ) → inNet net a ≡ true → InNet net a
+  test-in : (a : ℕ) → a < 32 → inNet net a ≡ true → InNet net a
   unfolding inNet
-  test-in a e =
+  test-in a l e =
       ⊎-elim
       (λ h. ⊎-elim (λ q. the-start (sym (eqb-true (net .start) a q))) (λ q. the-end (sym (eqb-true (net .end) a q))) (or-cases (eqb (net .start) a) (eqb (net .end) a) h))
-      (λ h. ⊎-elim (sides-in Input a) (sides-in Output a) (or-cases (onSides net Input a) (onSides net Output a) h))
+      (λ h. ⊎-elim (sides-in Input a l) (sides-in Output a l) (or-cases (onSides net Input a) (onSides net Output a) h))
       (or-cases (eqb (net .start) a || eqb (net .end) a) (onSides net Input a || onSides net Output a) e)
 
   in-test : (a : ℕ) → InNet net a → inNet net a ≡ true
@@ -122,9 +122,9 @@ module _ (net : Net) (o : orderly net ≡ true) where
   in-test a (the-start e) = or-left (onSides net Input a || onSides net Output a) (or-left (eqb (net .end) a) (eq-eqb (net .start) a (sym e)))
   in-test a (the-end e) = or-left (onSides net Input a || onSides net Output a) (or-right (eqb (net .start) a) (eq-eqb (net .end) a (sym e)))
   in-test a (with-a-set side m h) = on-either side a (or-left (anyBelow 32 (λ b. names net side b a)) (set-has side a m h))
-  in-test a (in-a-set side b n) =
+  in-test a (in-a-set side b l n) =
       on-either side a
       (or-right (not (eqb (getD (lengthsOf net side) a 0) 0)) (true-any (λ c. names net side c a) 32 b (names-activity side b a n) (names-facts net side b a .1 n)))
 
-  pub in-net-facts : (a : ℕ) → (inNet net a ≡ true) ↔ InNet net a
-  in-net-facts a = (test-in a, in-test a)
+  pub in-net-facts : (a : ℕ) → a < 32 → (inNet net a ≡ true) ↔ InNet net a
+  in-net-facts a l = (test-in a l, in-test a)

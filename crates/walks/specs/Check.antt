@@ -1,27 +1,45 @@
 -- What the net check says (01, "Net check and judge"; refusals 2 and 6).
 use Prim.Native.Nat.{ℕ}
-use mathlib.Core.Bool.{Bool, cond, not, _&&_, _||_}
-use mathlib.Core.List.{List}
+use mathlib.Core.Bool.{Bool, not, _&&_, _||_}
+use mathlib.Core.List.{List, [], _∷_}
 use lib.Dec.{eqb}
 use lib.ListN.{getD}
 use Rattle.obligations.specs.Limits.{activities}
 use Rattle.obligations.specs.Sets.{member, members}
 use Rattle.net.specs.Refusals.{Says, accepted, refused, disorderly, on-no-walk}
+use Rattle.net.specs.Sentences.{Sentence, lowest}
+use Rattle.net.specs.Chains.{unless, unlessAt}
 use Rattle.net.specs.Sides.{lengthsOf}
 use Rattle.net.specs.Orderly.{orderly}
+use Rattle.net.specs.Common.{notOrderly}
 use Rattle.net.specs.declared.Net.{Net}
 use Rattle.net.specs.declared.Side.{Side}
 use Rattle.net.specs.declared.Side.the-variants.{Input, Output}
 use Rattle.walks.specs.Below.{anyBelow, those}
 use Rattle.walks.specs.Arcs.{names, arc, arcs}
+use Rattle.walks.specs.Walk.{InNet, OnWalk}
 use Rattle.walks.specs.Rows.{rows, reach}
 use Rattle.walks.specs.declared.CheckAnswer.{CheckAnswer}
 use Rattle.walks.specs.declared.CheckAnswer.the-variants.{Passed, Refused}
 
--- what each answer says: an accepted check's value is the number of arcs
+-- what each answer means: an accepted check's value is the number of arcs
 abbrev pub checkMeans : CheckAnswer → Says
 checkMeans (Passed n) = accepted n
 checkMeans (Refused n p) = refused n p
+
+-- ---- the refusals
+
+-- 6: an activity is on no walk from start to end; the lowest is returned
+abbrev pub Lost : Net → ℕ → Type 0
+Lost net a = InNet net a × (OnWalk net a → ⊥)
+
+abbrev pub onNoWalk : Net → Sentence
+onNoWalk net = lowest on-no-walk (Lost net)
+
+abbrev pub checkRefusals : Net → List Sentence
+checkRefusals net = notOrderly net ∷ onNoWalk net ∷ []
+
+-- ---- what is said
 
 -- a has a set on its side, or is named in a set on some activity's
 unfoldable pub onSides : Net → Side → ℕ → Bool
@@ -47,12 +65,12 @@ unfoldable pub lost : Net → ℕ
 lost net = outside net (reach (successors net) (net .start)) (reach (predecessors net) (net .end))
 
 -- the lowest member of a set
-unfoldable pub lowest : ℕ → ℕ
-lowest m = getD (members m) 0 0
+unfoldable pub lowestMember : ℕ → ℕ
+lowestMember m = getD (members m) 0 0
 
--- what is said of an orderly net with these activities on no walk
-unfoldable pub lostSays : Net → ℕ → Says
-lostSays net m = cond (eqb m 0) (accepted (arcs net)) (refused on-no-walk (lowest m))
+-- the rest of a chain if every activity of the net is on a walk, else refusal 6 with the lowest that isn't
+unfoldable pub onWalks : Net → Says → Says
+onWalks net rest = unlessAt (eqb (lost net) 0) on-no-walk (lowestMember (lost net)) rest
 
 unfoldable pub checkSays : Net → Says
-checkSays net = cond (orderly net) (lostSays net (lost net)) (refused disorderly 0)
+checkSays net = unless (orderly net) disorderly (onWalks net (accepted (arcs net)))

@@ -1,42 +1,32 @@
 -- What is proved of the net check (01, "Net check and judge"): the definitions that compute say what the paper's sentences say.
-use Prim.Native.Nat.{ℕ, _<_}
+use Prim.Native.Nat.{ℕ}
 use mathlib.Core.Path.{_≡_}
 use mathlib.Core.Logic.{_↔_}
 use mathlib.Core.Bool.{true}
-use Rattle.net.specs.Refusals.{accepted, refused, disorderly, on-no-walk}
-use Rattle.net.specs.Sides.{Masks}
+use Rattle.net.specs.Sentences.{NoneHolds, AsListed}
 use Rattle.net.specs.Orderly.{Orderly}
 use Rattle.net.specs.Contained.{Contained}
 use Rattle.net.specs.declared.Net.{Net}
 use Rattle.walks.specs.Arcs.{Arc, arc, arcs}
-use Rattle.walks.specs.Walk.{Walk, InNet, OnWalk, Passes}
-use Rattle.walks.specs.Check.{checkSays}
-
--- Where `Masks` is asked for: without it a set could name a number above 31, which would be in the net and on no walk, and
--- which a check over 32 activities does not see. It is needed from what is accepted to what passes, and from the lowest on no
--- walk to what is refused; the other ways hold of every record.
-
--- a is the lowest of the net's activities that are on no walk from start to end
-pub record LowestLost (net : Net) (a : ℕ) : Type 0 where
-  pub in-net : InNet net a
-  pub on-none : OnWalk net a → ⊥
-  pub lower-on-walks : (b : ℕ) → b < a → InNet net b → OnWalk net b
+use Rattle.walks.specs.Walk.{Walk, Passes}
+use Rattle.walks.specs.Check.{checkMeans, checkRefusals, checkSays}
+use Rattle.walks.specs.declared.CheckAnswer.the-variants.{Passed, Refused}
 
 -- the test of an arc is the paper's
 abbrev pub ArcTestRight : Type 0
 ArcTestRight = (net : Net) (p q : ℕ) → (arc net p q ≡ true) ↔ Arc net p q
 
--- refusal 2: exactly of a record that isn't orderly
-abbrev pub DisorderlyRefused : Type 0
-DisorderlyRefused = (net : Net) → (checkSays net ≡ refused disorderly 0) ↔ (Orderly net → ⊥)
+-- the check is refused exactly as its sentences are listed: 2 of a record that isn't orderly, else 6 with the lowest activity that
+-- is on no walk
+abbrev pub CheckListed : Type 0
+CheckListed = (net : Net) → AsListed (λ n p. checkMeans (Refused n p)) (checkRefusals net) (checkSays net)
 
--- accepted: exactly if the net passes, with the number of arcs
+-- no refusal holds exactly if the net passes, and then the number of arcs is said
+abbrev pub NoneHoldsPasses : Type 0
+NoneHoldsPasses = (net : Net) → NoneHolds (checkRefusals net) ↔ Passes net
+
 abbrev pub PassingAccepted : Type 0
-PassingAccepted = (net : Net) (n : ℕ) → Masks net → (checkSays net ≡ accepted n) ↔ (Passes net × (n ≡ arcs net))
-
--- refusal 6: exactly if the net is orderly and an activity is on no walk, with the lowest
-abbrev pub LostRefused : Type 0
-LostRefused = (net : Net) (a : ℕ) → Masks net → (checkSays net ≡ refused on-no-walk a) ↔ (Orderly net × LowestLost net a)
+PassingAccepted = (net : Net) (n : ℕ) → (checkSays net ≡ checkMeans (Passed n)) ↔ (Passes net × (n ≡ arcs net))
 
 -- arcs and walks of a net are arcs and walks of each net that it is contained in
 abbrev pub WalksGrow : Type 0

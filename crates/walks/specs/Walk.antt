@@ -1,6 +1,7 @@
 -- Walks along arcs, and the nets that pass the check (01, "Net check and judge").
-use Prim.Native.Nat.{ℕ}
+use Prim.Native.Nat.{ℕ, _<_}
 use mathlib.Core.Path.{_≡_}
+use Rattle.obligations.specs.Limits.{activities}
 use Rattle.net.specs.Sides.{OnSide}
 use Rattle.net.specs.Orderly.{Orderly}
 use Rattle.net.specs.declared.Net.{Net}
@@ -16,12 +17,12 @@ pub data Along (Step : ℕ → ℕ → Type 0) : ℕ → ℕ → Type 0 where
 abbrev pub Walk : Net → ℕ → ℕ → Type 0
 Walk net a b = Along (Arc net) a b
 
--- a is one of the net's activities: start, end, all with a set on either side, and all named in a set
+-- a is one of the net's activities: start, end, all with a set on either side, and all activities named in a set
 pub data InNet (net : Net) (a : ℕ) : Type 0 where
   the-start : a ≡ net .start → InNet net a
   the-end : a ≡ net .end → InNet net a
   with-a-set : (side : Side) (m : ℕ) → OnSide net side a m → InNet net a
-  in-a-set : (side : Side) (b : ℕ) → Names net side b a → InNet net a
+  in-a-set : (side : Side) (b : ℕ) → a < activities → Names net side b a → InNet net a
 
 -- a is on a walk along arcs from start to end
 pub record OnWalk (net : Net) (a : ℕ) : Type 0 where
