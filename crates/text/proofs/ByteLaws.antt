@@ -2,6 +2,7 @@
 -- and `drop-step` are the bridge between an index and a list; the rest computes from there. Assumes nothing.
 use Prim.Native.Nat.{ℕ, zero, suc, _+_, _≤_, _<_}
 use mathlib.Core.Path.{_≡_, refl, sym, ap, ap₂, _∙_}
+use mathlib.Core.Logic.{_↔_}
 use mathlib.Core.Bool.{Bool, true, false, and-false, cond, false≢true}
 use mathlib.Core.List.{List, [], _∷_, _++_}
 use native.Mathlib.Nat.{add-assoc, zero-add, suc-add}
@@ -15,6 +16,7 @@ use lib.Seq.{slice, slice-cons, slice-empty, drop-cons, drop-length, take-nil, t
 use Rattle.obligations.specs.Tests.{indicator}
 use Rattle.obligations.proofs.BoolLaws.{and-left, and-right}
 use Rattle.text.specs.Bytes.{before, count, sameBytes}
+use Rattle.text.specs.Decimal.{isEmpty}
 
 -- ---- one byte of a part, and one of the rest
 
@@ -113,3 +115,15 @@ same-equal [] [] h = refl
 same-equal [] (b ∷ t) h = absurd (false≢true h)
 same-equal (a ∷ s) [] h = absurd (false≢true h)
 same-equal (a ∷ s) (b ∷ t) h = ap₂ (λ (x : ℕ) (l : List ℕ). x ∷ l) (eqb-true a b (and-left (eqb a b) (sameBytes s t) h)) (same-equal s t (and-right (eqb a b) (sameBytes s t) h))
+
+pub same-exactly : (s t : List ℕ) → (sameBytes s t ≡ true) ↔ (s ≡ t)
+same-exactly s t = (same-equal s t, (λ e. rw e (same-refl t)))
+
+-- ---- no bytes
+
+pub empty-exactly : (s : List ℕ) → (isEmpty s ≡ true) ↔ (s ≡ [])
+empty-exactly s = (none s, (λ e. ap isEmpty e))
+  where
+    none : (s : List ℕ) → isEmpty s ≡ true → s ≡ []
+    none [] q = refl
+    none (b ∷ s) q = absurd (false≢true q)

@@ -1,18 +1,20 @@
--- Laws of decimal numbers: what a reader's answer says of its field, and that what is printed is all digits, well led, and
--- read as the number that was printed. Assumes nothing.
+-- Laws of decimal numbers: what a reader's answer says of its field; that what is printed is all digits, well led, and
+-- read as the number that was printed; and that nothing else is read as that number, since digits after a number that
+-- isn't 0 are printed after it. Assumes nothing.
 use Prim.Native.Nat.{ℕ, zero, suc, _+_, _*_, _-_, _≤_, _<_, _^_, _%_, _/_}
-use mathlib.Core.Path.{_≡_, refl, _∙_}
-use mathlib.Core.Logic.{⊎-elim}
-use mathlib.Core.Bool.{Bool, true, false, _&&_, cond}
-use mathlib.Core.List.{List, [], _∷_, _++_, List·Memᴰ, List·Memᴰ·cases-cons, List·Memᴰ·not-nil}
-use native.Mathlib.Nat.{pow-suc}
+use mathlib.Core.Path.{_≡_, refl, sym, ap, ap₂, _∙_}
+use mathlib.Core.Logic.{_↔_, ⊎-elim}
+use mathlib.Core.Bool.{Bool, true, false, _&&_, cond, false≢true}
+use mathlib.Core.List.{List, [], _∷_, _++_, map, append-nil, append-assoc, List·Memᴰ, List·Memᴰ·head, List·Memᴰ·tail, List·Memᴰ·cases-cons, List·Memᴰ·not-nil}
+use native.Mathlib.Nat.{pow-suc, zero-add, eq-or-lt-of-le}
 use native.Mathlib.Omega.{arith}
-use borrow.Author.Tests.{le-leb, ne-eqb, leb-true, ltb-true, ltb-false}
-use lib.Dec.{leb, ltb}
+use borrow.Author.Tests.{le-leb, ne-eqb, leb-true, ltb-true, ltb-false, le-ltb, eqb-false, not-true}
+use lib.Dec.{leb, ltb, eqb}
 use Rattle.obligations.proofs.BoolLaws.{and-left, and-right}
 use Rattle.text.specs.Bytes.{count}
 use Rattle.text.specs.Decimal.{isDigit, allDigits, valueFrom, value, wellLed, isNumber, parseNumber, allNumbers, values, digit, decimal, printNumber}
 use Rattle.text.specs.declared.decimal.Number.the-variants.{Value, Refused}
+use Rattle.text.proofs.DigitLaws.{value-grows, decimal-low}
 
 -- ---- what an answer says of its field
 
@@ -105,13 +107,83 @@ pub parse-print : (limit n : ℕ) → n ≤ limit → n < 10 ^ 20 → parseNumbe
 unfolding parseNumber
 parse-print limit n h u = rw (print-number limit n h u, print-value n u)
 
+digit-byte : (b : ℕ) → isDigit b ≡ true → (48 ≤ b) × (b ≤ 57)
+digit-byte b q = (leb-true 48 b (and-left (leb 48 b) (leb b 57) q), leb-true b 57 (and-right (leb 48 b) (leb b 57) q))
+
 -- digits hold no byte below 48, as CR, LF, space and comma are
 digits-free : (c : ℕ) (s : List ℕ) → c < 48 → allDigits s ≡ true → count c s ≡ 0
 digits-free c [] h q = refl
 digits-free c (b ∷ s) h q =
-    let d : 48 ≤ b = leb-true 48 b (and-left (leb 48 b) (leb b 57) (and-left (isDigit b) (allDigits s) q)) in
+    let d = digit-byte b (and-left (isDigit b) (allDigits s) q) in
     rw (ne-eqb b c (λ e. omega arith)) (omega (arith, digits-free c s h (and-right (isDigit b) (allDigits s) q)))
 
 pub number-free : (c n : ℕ) → c < 48 → count c (printNumber n) ≡ 0
 unfolding printNumber
 number-free c n h = digits-free c (decimal 19 n) h (decimal-digits 19 n)
+
+-- ---- what is read is the print of its value
+
+-- room for a digit that isn't there changes nothing
+decimal-spare : (f n : ℕ) → n < 10 ^ suc f → decimal (suc f) n ≡ decimal f n
+decimal-spare zero n h = decimal-low 1 n h
+decimal-spare (suc f) n h = ap (λ (s : List ℕ). cond (ltb n 10) (digit n ∷ []) (s ++ (digit n ∷ []))) (decimal-spare f (n / 10) (omega (arith, pow-suc 10 (suc f))))
+
+-- a number that isn't 0, with a digit more, and with more digits
+decimal-snoc : (f v b : ℕ) → 0 < v → isDigit b ≡ true → v * 10 + (b - 48) < 10 ^ suc f → decimal f (v * 10 + (b - 48)) ≡ decimal f v ++ (b ∷ [])
+decimal-snoc zero v b h q u = absurd (omega arith)
+decimal-snoc (suc f) v b h q u =
+    let d = digit-byte b q in
+    let t : (v * 10 + (b - 48)) / 10 ≡ v = omega arith in
+    let e : digit (v * 10 + (b - 48)) ≡ b = omega arith in
+    rw (le-ltb (v * 10 + (b - 48)) 10 (omega arith), t, e) (ap (λ (s : List ℕ). s ++ (b ∷ [])) (sym (decimal-spare f v (omega (arith, pow-suc 10 (suc f))))))
+
+decimal-after : (f v : ℕ) (s : List ℕ) → 0 < v → allDigits s ≡ true → valueFrom v s < 10 ^ suc f → decimal f (valueFrom v s) ≡ decimal f v ++ s
+decimal-after f v [] h q u = sym (append-nil (decimal f v))
+decimal-after f v (b ∷ s) h q u =
+    let w : ℕ = v * 10 + (b - 48) in
+    decimal-after f w s (omega arith) (and-right (isDigit b) (allDigits s) q) u
+    ∙ ap (λ (r : List ℕ). r ++ s) (decimal-snoc f v b h (and-left (isDigit b) (allDigits s) q) (omega (arith, value-grows w s)))
+    ∙ append-assoc (decimal f v) (b ∷ []) s
+
+-- a digit alone, and digits that are well led
+decimal-first : (f b : ℕ) → isDigit b ≡ true → decimal f (b - 48) ≡ b ∷ []
+decimal-first f b q =
+    let d = digit-byte b q in
+    let e : digit (b - 48) ≡ b = omega arith in
+    decimal-low f (b - 48) (omega arith) ∙ ap (λ (k : ℕ). k ∷ []) e
+
+digits-printed : (f : ℕ) (s : List ℕ) → wellLed s ≡ true → allDigits s ≡ true → value s < 10 ^ suc f → s ≡ decimal f (value s)
+digits-printed f [] l q u = absurd (false≢true l)
+digits-printed f (b ∷ []) l q u = rw (zero-add (b - 48)) (sym (decimal-first f b (and-left (isDigit b) true q)))
+digits-printed f (b ∷ c ∷ s) l q u =
+    let t = and-left (isDigit b) (allDigits (c ∷ s)) q in
+    let d = digit-byte b t in
+    let z = eqb-false b 48 (not-true (eqb b 48) l) in
+    let p : 0 < b - 48 = ⊎-elim (λ e. absurd (z (omega arith))) (λ g. omega arith) (eq-or-lt-of-le (d .0)) in
+    rw (zero-add (b - 48)) (sym (decimal-after f (b - 48) (c ∷ s) p (and-right (isDigit b) (allDigits (c ∷ s)) q) (rw (zero-add (b - 48)) at u) ∙ ap (λ (r : List ℕ). r ++ (c ∷ s)) (decimal-first f b t)))
+
+pub number-printed : (limit : ℕ) (s : List ℕ) → limit < 10 ^ 20 → isNumber limit s ≡ true → s ≡ printNumber (value s)
+unfolding isNumber printNumber
+number-printed limit s h q =
+    let r = and-right (wellLed s) (allDigits s && leb (value s) limit) q in
+    digits-printed 19 s (and-left (wellLed s) (allDigits s && leb (value s) limit) q) (and-left (allDigits s) (leb (value s) limit) r) (omega (arith, leb-true (value s) limit (and-right (allDigits s) (leb (value s) limit) r)))
+
+-- a field is read as a number exactly if it is the number's print and the number is at most the limit
+pub parse-exactly : (limit n : ℕ) (s : List ℕ) → limit < 10 ^ 20 → (parseNumber limit s ≡ Value n) ↔ ((s ≡ printNumber n) × (n ≤ limit))
+parse-exactly limit n s h = (
+  (λ q. let v = number-value limit s n q in (number-printed limit s h (v .0) ∙ ap printNumber (v .1), parse-most limit s n q)),
+  (λ w. ap (parseNumber limit) (w .0) ∙ parse-print limit n (w .1) (omega arith)),
+)
+
+-- fields that are numbers are the prints of their values, and prints of numbers are fields of these values
+pub fields-printed : (limit : ℕ) (fs : List (List ℕ)) → limit < 10 ^ 20 → allNumbers limit fs ≡ true → fs ≡ map printNumber (values fs)
+fields-printed limit [] h q = refl
+fields-printed limit (f ∷ fs) h q =
+    ap₂ (λ (p : List ℕ) (ps : List (List ℕ)). p ∷ ps) (number-printed limit f h (and-left (isNumber limit f) (allNumbers limit fs) q)) (fields-printed limit fs h (and-right (isNumber limit f) (allNumbers limit fs) q))
+
+pub printed-fields : (limit : ℕ) (ks : List ℕ) → limit < 10 ^ 20 → ((k : ℕ) → List·Memᴰ k ks → k ≤ limit) → (allNumbers limit (map printNumber ks) ≡ true) × (values (map printNumber ks) ≡ ks)
+printed-fields limit [] h m = (refl, refl)
+printed-fields limit (k ∷ ks) h m =
+    let l = m k (List·Memᴰ·head refl) in
+    let r = printed-fields limit ks h (λ j t. m j (List·Memᴰ·tail t)) in
+    (rw (print-number limit k l (omega arith)) (r .0), ap₂ (λ (j : ℕ) (js : List ℕ). j ∷ js) (print-value k (omega arith)) (r .1))

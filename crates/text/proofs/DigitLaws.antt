@@ -24,7 +24,7 @@ abbrev pub digits : ℕ → ℕ → List ℕ → Number
 digits limit v [] = Value v
 digits limit v (b ∷ s) = cond (isDigit b) (cond (leb (v * 10 + (b - 48)) limit) (digits limit (v * 10 + (b - 48)) s) Refused) Refused
 
-value-grows : (v : ℕ) (s : List ℕ) → v ≤ valueFrom v s
+pub value-grows : (v : ℕ) (s : List ℕ) → v ≤ valueFrom v s
 value-grows v [] = omega arith
 value-grows v (b ∷ s) = omega (arith, value-grows (v * 10 + (b - 48)) s)
 
@@ -112,7 +112,8 @@ number-last n = decimal-last 19 n
 
 -- ---- how many digits there are
 
-decimal-low : (f n : ℕ) → n < 10 → length (decimal f n) ≡ 1
+-- a number below 10 is printed as one digit
+pub decimal-low : (f n : ℕ) → n < 10 → decimal f n ≡ digit n ∷ []
 decimal-low zero n h = refl
 decimal-low (suc f) n h = rw (lt-ltb n 10 h)
 
@@ -176,4 +177,4 @@ counting-more n width rest c h = ⊎-elim more last (lt-or-le width 20)
         absurd (omega arith)
 
 pub counting-end : (n width rest : ℕ) → Counting n width rest → rest < 10 → width ≡ length (printNumber n)
-counting-end n width rest c h = omega (arith, c .total, decimal-low (20 - width) rest h)
+counting-end n width rest c h = omega (arith, c .total, ap length (decimal-low (20 - width) rest h))

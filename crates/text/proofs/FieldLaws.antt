@@ -1,12 +1,13 @@
 -- Laws of fields: the first part ends at the first separator and the others follow it, there is one part more than
--- separators, and what was joined is split again. By induction on the text. Assumes nothing.
+-- separators, the parts joined again are the text, and what was joined is split again. By induction on the text. Assumes
+-- nothing.
 use Prim.Native.Nat.{ℕ, suc, _+_, _-_, _≤_, _<_}
 use mathlib.Core.Path.{_≡_, refl, sym, ap, _∙_}
-use mathlib.Core.Logic.{_⊎_, inl, inr}
+use mathlib.Core.Logic.{_↔_, _⊎_, inl, inr}
 use mathlib.Core.Bool.{Bool, true, false, cond}
 use mathlib.Core.List.{List, [], _∷_, _++_, append-nil, List·Memᴰ, List·Memᴰ·head, List·Memᴰ·tail}
 use native.Mathlib.Omega.{arith}
-use borrow.Author.Tests.{eq-eqb}
+use borrow.Author.Tests.{eq-eqb, eqb-true}
 use lib.Dec.{eqb}
 use lib.ListN.{length, take, drop}
 use lib.Seq.{slice, drop-drop, length-slice}
@@ -72,6 +73,19 @@ length-split c (b ∷ s) = go (eqb b c) (length-split c s)
     go : (t : Bool) → length (split c s) ≡ suc (count c s) → length (cond t ([] ∷ split c s) (onto b (split c s))) ≡ suc (indicator t + count c s)
     go true ih = omega arith
     go false ih = rw (split-head c s) (omega (arith, ap length (split-head c s)))
+
+pub count-split : (c : ℕ) (s : List ℕ) (k : ℕ) → (count c s ≡ k) ↔ (length (split c s) ≡ suc k)
+count-split c s k = ((λ q. length-split c s ∙ ap suc q), (λ q. omega (arith, length-split c s)))
+
+-- the parts joined again are the text
+pub join-split : (c : ℕ) (s : List ℕ) → join c (split c s) ≡ s
+join-split c [] = refl
+join-split c (b ∷ s) = go (eqb b c) refl (split c s) (length-split c s) (join-split c s)
+  where
+    go : (t : Bool) → eqb b c ≡ t → (ps : List (List ℕ)) → length ps ≡ suc (count c s) → join c ps ≡ s → join c (cond t ([] ∷ ps) (onto b ps)) ≡ b ∷ s
+    go t q [] e ih = absurd (omega arith)
+    go true q (p ∷ ps) e ih = cc (eqb-true b c q)
+    go false q (p ∷ ps) e ih = cc
 
 -- a text without the separator is its only part
 pub split-only : (c : ℕ) (p : List ℕ) → count c p ≡ 0 → split c p ≡ p ∷ []

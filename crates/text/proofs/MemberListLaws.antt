@@ -1,19 +1,20 @@
 -- Laws of member lists. Reading goes field by field with the lowest member still allowed and the set so far; a set's
--- members ascend and are activities, so that its printed list is read as the set. Assumes nothing.
+-- members ascend and are activities, so that its printed list is read as the set. No other text is: its numbers are
+-- printed numbers, and numbers that ascend are listed in one way. Assumes nothing.
 use Prim.Native.Nat.{ℕ, zero, suc, _+_, _-_, _*_, _≤_, _<_, _^_, _%_, _/_}
-use mathlib.Core.Path.{_≡_, refl, sym, _∙_}
-use mathlib.Core.Logic.{_⊎_, inl, inr, ⊎-elim}
+use mathlib.Core.Path.{_≡_, refl, sym, ap, ap₂, _∙_}
+use mathlib.Core.Logic.{_↔_, _⊎_, inl, inr, ⊎-elim}
 use mathlib.Core.Bool.{Bool, true, false, _&&_, or-true, and-false, cond}
 use mathlib.Core.List.{List, [], _∷_, map, List·Memᴰ, List·Memᴰ·head, List·Memᴰ·tail, List·Memᴰ·cases-cons, List·Memᴰ·not-nil}
 use native.Mathlib.Omega.{arith}
-use borrow.Author.Tests.{le-leb, lt-leb, eq-eqb, ne-eqb, eqb-true}
+use borrow.Author.Tests.{le-leb, lt-leb, eq-eqb, ne-eqb, eqb-true, leb-true}
 use lib.Bits.{bitAnd}
 use lib.Count.{trailingZeros}
 use lib.Dec.{leb, eqb}
 use lib.ListN.{length, length-append}
 use lib.Seq.{slice}
 use Rattle.obligations.specs.Sets.{member, single, union, keep, membersFrom, members}
-use Rattle.obligations.proofs.BoolLaws.{false-not-true, and-left, same-test}
+use Rattle.obligations.proofs.BoolLaws.{false-not-true, and-left, and-right, same-test}
 use Rattle.obligations.proofs.SetLaws.{single-lt, union-lt, member-none, member-activity, member-with, set-ext}
 use Rattle.obligations.proofs.MemberLaws.{members-walk, members-are}
 use Rattle.text.specs.Bytes.{before, count}
@@ -24,9 +25,9 @@ use Rattle.text.specs.declared.decimal.Number.the-variants as number
 use Rattle.text.specs.declared.members.Members.{Members}
 use Rattle.text.specs.declared.members.Members.the-variants.{Set, Refused}
 use Rattle.text.proofs.ByteLaws.{count-append}
-use Rattle.text.proofs.FieldLaws.{part-head, part-last, part-more, split-join, length-split}
+use Rattle.text.proofs.FieldLaws.{part-head, part-last, part-more, split-join, join-split, length-split}
 use Rattle.text.proofs.DigitLaws.{number-below-100}
-use Rattle.text.proofs.DecimalLaws.{number-value, number-refused, values-most, number-free, print-number, print-value}
+use Rattle.text.proofs.DecimalLaws.{number-value, number-refused, values-most, number-free, fields-printed, printed-fields}
 
 -- ---- reading field by field
 
@@ -88,7 +89,7 @@ members-short m = omega (arith, join-short space (map printNumber (membersFrom 3
 
 -- ---- what was printed is read
 
--- the members of a mask ascend, and are activities
+-- the members of a mask ascend
 from-ascend : (n k low m : ℕ) → low ≤ k → ascendsFrom low (membersFrom n k m) ≡ true
 unfolding membersFrom keep
 from-ascend zero k low m h = refl
@@ -98,23 +99,9 @@ from-ascend (suc n) k low m h = go (m % 2) (λ lo g. from-ascend n (suc k) lo (m
     go zero ih = ih low (omega arith)
     go (suc b) ih = rw (le-leb low k h) (ih (k + 1) (omega arith))
 
-from-numbers : (n k m : ℕ) → k + n ≤ 32 → allNumbers highest (map printNumber (membersFrom n k m)) ≡ true
-unfolding membersFrom keep
-from-numbers zero k m h = refl
-from-numbers (suc n) k m h = go (m % 2) (from-numbers n (suc k) (m / 2) (omega arith))
-  where
-    go : (b : ℕ) → allNumbers highest (map printNumber (membersFrom n (suc k) (m / 2))) ≡ true → allNumbers highest (map printNumber (keep b k (membersFrom n (suc k) (m / 2)))) ≡ true
-    go zero ih = ih
-    go (suc b) ih = rw (print-number 31 k (omega arith) (omega arith)) ih
-
-from-values : (n k m : ℕ) → k + n ≤ 32 → values (map printNumber (membersFrom n k m)) ≡ membersFrom n k m
-unfolding membersFrom keep
-from-values zero k m h = refl
-from-values (suc n) k m h = go (m % 2) (from-values n (suc k) (m / 2) (omega arith))
-  where
-    go : (b : ℕ) → values (map printNumber (membersFrom n (suc k) (m / 2))) ≡ membersFrom n (suc k) (m / 2) → values (map printNumber (keep b k (membersFrom n (suc k) (m / 2)))) ≡ keep b k (membersFrom n (suc k) (m / 2))
-    go zero ih = ih
-    go (suc b) ih = rw (print-value k (omega arith), ih)
+members-ascend : (m : ℕ) → ascendsFrom 0 (members m) ≡ true
+unfolding members
+members-ascend m = from-ascend 32 0 0 m (omega arith)
 
 -- a set with members added has those that it had and those
 all-member : (m : ℕ) (ks : List ℕ) (j : ℕ) → ((k : ℕ) → List·Memᴰ k ks → k < 32) → member (withAll m ks) j ≡ true → (member m j ≡ true) ⊎ List·Memᴰ j ks
@@ -141,18 +128,18 @@ all-lt : (m : ℕ) (ks : List ℕ) → m < 2 ^ 32 → withAll m ks < 2 ^ 32
 all-lt m [] h = h
 all-lt m (k ∷ ks) h = all-lt (union m (single k)) ks (union-lt m (single k) h (single-lt k))
 
+member-below : (m : ℕ) → m < 2 ^ 32 → (k : ℕ) → List·Memᴰ k (members m) → k < 32
+member-below m h k q = member-activity m k h (members-are m k h .0 q)
+
 -- a set is its members put together
 pub all-members : (m : ℕ) → m < 2 ^ 32 → withAll 0 (members m) ≡ m
 all-members m h = set-ext (withAll 0 (members m)) m (all-lt 0 (members m) (omega arith)) h (λ k l. same-test (member (withAll 0 (members m)) k) (member m k) (λ t. there k t) (λ t. back k t))
   where
-    activity : (k : ℕ) → List·Memᴰ k (members m) → k < 32
-    activity k q = member-activity m k h (members-are m k h .0 q)
-
     there : (k : ℕ) → member (withAll 0 (members m)) k ≡ true → member m k ≡ true
-    there k t = ⊎-elim (λ q. absurd (false-not-true (member-none k) q)) (λ q. members-are m k h .0 q) (all-member 0 (members m) k activity t)
+    there k t = ⊎-elim (λ q. absurd (false-not-true (member-none k) q)) (λ q. members-are m k h .0 q) (all-member 0 (members m) k (member-below m h) t)
 
     back : (k : ℕ) → member m k ≡ true → member (withAll 0 (members m)) k ≡ true
-    back k t = member-all 0 (members m) k activity (inr (members-are m k h .1 t))
+    back k t = member-all 0 (members m) k (member-below m h) (inr (members-are m k h .1 t))
 
 -- printed members hold no byte below 48, and joined by a space none but that
 printed-free : (c : ℕ) → c < 48 → (ks : List ℕ) (q : List ℕ) → List·Memᴰ q (map printNumber ks) → count c q ≡ 0
@@ -178,37 +165,85 @@ split-members m h u = rw (members-walk m h u) (split-join space (printNumber (tr
 
 -- reading a set's printed member list gives the set; the empty set's is empty, which is no member list
 pub parse-print-members : (m : ℕ) → 0 < m → m < 2 ^ 32 → parseMembers (printMembers m) ≡ Set m
-unfolding parseMembers areMembers members
-parse-print-members m h u = rw (split-members m h u, numbers m, read m, ascend m, all-members m u)
+unfolding parseMembers areMembers
+parse-print-members m h u = let f = printed-fields 31 (members m) (omega arith) (λ k t. omega (arith, member-below m u k t)) in rw (split-members m h u, f .0, f .1, members-ascend m, all-members m u)
+
+-- ---- what is read is the print of a set that isn't empty
+
+-- what an answer says of its list
+list-value : (s : List ℕ) (m : ℕ) → parseMembers s ≡ Set m → (areMembers (split space s) ≡ true) × (withAll 0 (values (split space s)) ≡ m)
+unfolding parseMembers
+list-value s m = go (areMembers (split space s))
   where
-    numbers : (m : ℕ) → allNumbers highest (map printNumber (members m)) ≡ true
-    numbers m = from-numbers 32 0 m (omega arith)
-
-    read : (m : ℕ) → values (map printNumber (members m)) ≡ members m
-    read m = from-values 32 0 m (omega arith)
-
-    ascend : (m : ℕ) → ascendsFrom 0 (members m) ≡ true
-    ascend m = from-ascend 32 0 0 m (omega arith)
-
--- ---- what is read is a set that isn't empty
+    go : (t : Bool) → cond t (Set (withAll 0 (values (split space s)))) Refused ≡ Set m → (t ≡ true) × (withAll 0 (values (split space s)) ≡ m)
+    go true q = (refl, cc)
+    go false q = let z : _≡_ {A = ℕ} 0 1 = cc in absurd (omega arith)
 
 zero-or-some : (m : ℕ) → (m ≡ 0) ⊎ (0 < m)
 zero-or-some zero = inl refl
 zero-or-some (suc m) = inr (omega arith)
 
 pub parse-members-mask : (s : List ℕ) (m : ℕ) → parseMembers s ≡ Set m → (0 < m) × (m < 2 ^ 32)
-unfolding parseMembers areMembers
-parse-members-mask s m = go (split space s) (length-split space s)
+unfolding areMembers
+parse-members-mask s m q = let v = list-value s m q in go (split space s) (length-split space s) (v .0) (v .1)
   where
-    some : (f : List ℕ) (fs : List (List ℕ)) → allNumbers highest (f ∷ fs) ≡ true → 0 < withAll 0 (values (f ∷ fs))
-    some f fs n = ⊎-elim (λ z. absurd (false-not-true (member-none (value f)) (rw z at (member-all 0 (values (f ∷ fs)) (value f) (λ k t. omega (arith, values-most 31 (f ∷ fs) n k t)) (inr (List·Memᴰ·head refl)))))) (λ h. h) (zero-or-some (withAll 0 (values (f ∷ fs))))
-
-    go : (fs : List (List ℕ)) → length fs ≡ suc (count space s) → cond (allNumbers highest fs && ascendsFrom 0 (values fs)) (Set (withAll 0 (values fs))) Refused ≡ Set m → (0 < m) × (m < 2 ^ 32)
-    go [] e q = absurd (omega arith)
-    go (f ∷ fs) e q = told (allNumbers highest (f ∷ fs) && ascendsFrom 0 (values (f ∷ fs))) refl q
+    go : (fs : List (List ℕ)) → length fs ≡ suc (count space s) → allNumbers highest fs && ascendsFrom 0 (values fs) ≡ true → withAll 0 (values fs) ≡ m → (0 < m) × (m < 2 ^ 32)
+    go [] e a w = absurd (omega arith)
+    go (f ∷ fs) e a w = (⊎-elim (λ z. absurd (false-not-true (member-none (value f)) (ap (λ (n : ℕ). member n (value f)) (sym z ∙ sym w) ∙ first))) (λ h. h) (zero-or-some m), rw (← w) (all-lt 0 (values (f ∷ fs)) (omega arith)))
       where
-        told : (t : Bool) → allNumbers highest (f ∷ fs) && ascendsFrom 0 (values (f ∷ fs)) ≡ t → cond t (Set (withAll 0 (values (f ∷ fs)))) Refused ≡ Set m → (0 < m) × (m < 2 ^ 32)
-        told true p q =
-            let w : withAll 0 (values (f ∷ fs)) ≡ m = cc in
-            rw (← w) (some f fs (and-left (allNumbers highest (f ∷ fs)) (ascendsFrom 0 (values (f ∷ fs))) p), all-lt 0 (values (f ∷ fs)) (omega arith))
-        told false p q = let z : _≡_ {A = ℕ} 0 1 = cc in absurd (omega arith)
+        first : member (withAll 0 (values (f ∷ fs))) (value f) ≡ true
+        first = member-all 0 (values (f ∷ fs)) (value f) (λ k t. omega (arith, values-most 31 (f ∷ fs) (and-left (allNumbers highest (f ∷ fs)) (ascendsFrom 0 (values (f ∷ fs))) a) k t)) (inr (List·Memᴰ·head refl))
+
+-- ascending numbers are listed in one way
+ascends-least : (low : ℕ) (ks : List ℕ) → ascendsFrom low ks ≡ true → (k : ℕ) → List·Memᴰ k ks → low ≤ k
+ascends-least low [] a k t = absurd (List·Memᴰ·not-nil t)
+ascends-least low (x ∷ ks) a k t =
+    let l = leb-true low x (and-left (leb low x) (ascendsFrom (x + 1) ks) a) in
+    ⊎-elim (λ e. omega arith) (λ r. omega (arith, ascends-least (x + 1) ks (and-right (leb low x) (ascendsFrom (x + 1) ks) a) k r)) (List·Memᴰ·cases-cons t)
+
+abbrev Among : List ℕ → List ℕ → Type 0
+Among ks js = (k : ℕ) → List·Memᴰ k ks → List·Memᴰ k js
+
+-- of two lists, the first of one is no lower than that of the other, and without an equal first they hold the same
+first-least : (x y : ℕ) (ks js : List ℕ) → ascendsFrom (y + 1) js ≡ true → Among (x ∷ ks) (y ∷ js) → y ≤ x
+first-least x y ks js b f = ⊎-elim (λ e. omega arith) (λ r. omega (arith, ascends-least (y + 1) js b x r)) (List·Memᴰ·cases-cons (f x (List·Memᴰ·head refl)))
+
+among-rest : (x y : ℕ) (ks js : List ℕ) → x ≡ y → ascendsFrom (x + 1) ks ≡ true → Among (x ∷ ks) (y ∷ js) → Among ks js
+among-rest x y ks js q a f k t = ⊎-elim (λ e. absurd (omega (arith, ascends-least (x + 1) ks a k t))) (λ r. r) (List·Memᴰ·cases-cons (f k (List·Memᴰ·tail t)))
+
+same-ascending : (low high : ℕ) (ks js : List ℕ) → ascendsFrom low ks ≡ true → ascendsFrom high js ≡ true → Among ks js → Among js ks → ks ≡ js
+same-ascending low high [] [] a b f g = refl
+same-ascending low high [] (y ∷ js) a b f g = absurd (List·Memᴰ·not-nil (g y (List·Memᴰ·head refl)))
+same-ascending low high (x ∷ ks) [] a b f g = absurd (List·Memᴰ·not-nil (f x (List·Memᴰ·head refl)))
+same-ascending low high (x ∷ ks) (y ∷ js) a b f g =
+    let c = and-right (leb low x) (ascendsFrom (x + 1) ks) a in
+    let d = and-right (leb high y) (ascendsFrom (y + 1) js) b in
+    let e : x ≡ y = omega (arith, first-least x y ks js d f, first-least y x js ks c g) in
+    ap₂ (λ (k : ℕ) (l : List ℕ). k ∷ l) e (same-ascending (x + 1) (y + 1) ks js c d (among-rest x y ks js e c f) (among-rest y x js ks (sym e) d g))
+
+-- activities that ascend are the members of their set
+members-all : (ks : List ℕ) → ((k : ℕ) → List·Memᴰ k ks → k < 32) → ascendsFrom 0 ks ≡ true → ks ≡ members (withAll 0 ks)
+members-all ks h a = same-ascending 0 0 ks (members (withAll 0 ks)) a (members-ascend (withAll 0 ks)) there back
+  where
+    small : withAll 0 ks < 2 ^ 32
+    small = all-lt 0 ks (omega arith)
+
+    there : Among ks (members (withAll 0 ks))
+    there k t = members-are (withAll 0 ks) k small .1 (member-all 0 ks k h (inr t))
+
+    back : Among (members (withAll 0 ks)) ks
+    back k t = ⊎-elim (λ q. absurd (false-not-true (member-none k) q)) (λ r. r) (all-member 0 ks k h (members-are (withAll 0 ks) k small .0 t))
+
+members-printed : (s : List ℕ) (m : ℕ) → parseMembers s ≡ Set m → s ≡ printMembers m
+unfolding areMembers printMembers
+members-printed s m q =
+    let fs : List (List ℕ) = split space s in
+    let v = list-value s m q in
+    let n = and-left (allNumbers highest fs) (ascendsFrom 0 (values fs)) (v .0) in
+    let a = and-right (allNumbers highest fs) (ascendsFrom 0 (values fs)) (v .0) in
+    let e : values fs ≡ members m = members-all (values fs) (λ k t. omega (arith, values-most 31 fs n k t)) a ∙ ap members (v .1) in
+    sym (join-split space s) ∙ ap (join space) (fields-printed 31 fs (omega arith) n ∙ ap (map printNumber) e)
+
+-- a text is read as a set exactly if it is the set's printed list and the set isn't empty
+pub parse-members-exactly : (s : List ℕ) (m : ℕ) → (parseMembers s ≡ Set m) ↔ ((s ≡ printMembers m) × (0 < m) × (m < 2 ^ 32))
+parse-members-exactly s m = ((λ q. let f = parse-members-mask s m q in (members-printed s m q, f .0, f .1)), (λ w. ap parseMembers (w .0) ∙ parse-print-members m (w .1) (w .2)))
