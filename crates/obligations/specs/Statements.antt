@@ -37,6 +37,7 @@ StepTotal =
 abbrev pub TotalZero : Type 0
 TotalZero = (d : List ℕ) → (total d ≡ 0) ↔ (allZero d ≡ true)
 
+-- every count of a state is zero exactly if nothing is left in it
 abbrev pub AllZeroIsEvery : Type 0
 AllZeroIsEvery = (d : List ℕ) → length d ≡ pairs → (allZero d ≡ true) ↔ NothingLeft d
 

@@ -15,7 +15,7 @@ use lib.ListN.{length, length-append}
 use lib.Seq.{slice}
 use Rattle.obligations.specs.Sets.{member, single, union, keep, membersFrom, members}
 use Rattle.obligations.proofs.BoolLaws.{false-not-true, and-left, and-right, same-test}
-use Rattle.obligations.proofs.SetLaws.{single-lt, union-lt, member-none, member-activity, member-with, set-ext}
+use Rattle.obligations.proofs.SetLaws.{single-lt, union-lt, member-none, member-with, set-ext}
 use Rattle.obligations.proofs.MemberLaws.{members-walk, members-are}
 use Rattle.text.specs.Bytes.{before, count}
 use Rattle.text.specs.Fields.{space, split, led, join}
@@ -128,18 +128,18 @@ all-lt : (m : ℕ) (ks : List ℕ) → m < 2 ^ 32 → withAll m ks < 2 ^ 32
 all-lt m [] h = h
 all-lt m (k ∷ ks) h = all-lt (union m (single k)) ks (union-lt m (single k) h (single-lt k))
 
-member-below : (m : ℕ) → m < 2 ^ 32 → (k : ℕ) → List·Memᴰ k (members m) → k < 32
-member-below m h k q = member-activity m k h (members-are m k h .0 q)
+member-below : (m k : ℕ) → List·Memᴰ k (members m) → k < 32
+member-below m k q = members-are m k .0 q .0
 
 -- a set is its members put together
 pub all-members : (m : ℕ) → m < 2 ^ 32 → withAll 0 (members m) ≡ m
-all-members m h = set-ext (withAll 0 (members m)) m (all-lt 0 (members m) (omega arith)) h (λ k l. same-test (member (withAll 0 (members m)) k) (member m k) (λ t. there k t) (λ t. back k t))
+all-members m h = set-ext (withAll 0 (members m)) m (all-lt 0 (members m) (omega arith)) h (λ k l. same-test (member (withAll 0 (members m)) k) (member m k) (λ t. there k t) (λ t. back k l t))
   where
     there : (k : ℕ) → member (withAll 0 (members m)) k ≡ true → member m k ≡ true
-    there k t = ⊎-elim (λ q. absurd (false-not-true (member-none k) q)) (λ q. members-are m k h .0 q) (all-member 0 (members m) k (member-below m h) t)
+    there k t = ⊎-elim (λ q. absurd (false-not-true (member-none k) q)) (λ q. members-are m k .0 q .1) (all-member 0 (members m) k (member-below m) t)
 
-    back : (k : ℕ) → member m k ≡ true → member (withAll 0 (members m)) k ≡ true
-    back k t = member-all 0 (members m) k (member-below m h) (inr (members-are m k h .1 t))
+    back : (k : ℕ) → k < 32 → member m k ≡ true → member (withAll 0 (members m)) k ≡ true
+    back k l t = member-all 0 (members m) k (member-below m) (inr (members-are m k .1 (l, t)))
 
 -- printed members hold no byte below 48, and joined by a space none but that
 printed-free : (c : ℕ) → c < 48 → (ks : List ℕ) (q : List ℕ) → List·Memᴰ q (map printNumber ks) → count c q ≡ 0
@@ -166,7 +166,7 @@ split-members m h u = rw (members-walk m h u) (split-join space (printNumber (tr
 -- reading a set's printed member list gives the set; the empty set's is empty, which is no member list
 pub parse-print-members : (m : ℕ) → 0 < m → m < 2 ^ 32 → parseMembers (printMembers m) ≡ Set m
 unfolding parseMembers areMembers
-parse-print-members m h u = let f = printed-fields 31 (members m) (omega arith) (λ k t. omega (arith, member-below m u k t)) in rw (split-members m h u, f .0, f .1, members-ascend m, all-members m u)
+parse-print-members m h u = let f = printed-fields 31 (members m) (omega arith) (λ k t. omega (arith, member-below m k t)) in rw (split-members m h u, f .0, f .1, members-ascend m, all-members m u)
 
 -- ---- what is read is the print of a set that isn't empty
 
@@ -225,14 +225,11 @@ same-ascending low high (x ∷ ks) (y ∷ js) a b f g =
 members-all : (ks : List ℕ) → ((k : ℕ) → List·Memᴰ k ks → k < 32) → ascendsFrom 0 ks ≡ true → ks ≡ members (withAll 0 ks)
 members-all ks h a = same-ascending 0 0 ks (members (withAll 0 ks)) a (members-ascend (withAll 0 ks)) there back
   where
-    small : withAll 0 ks < 2 ^ 32
-    small = all-lt 0 ks (omega arith)
-
     there : Among ks (members (withAll 0 ks))
-    there k t = members-are (withAll 0 ks) k small .1 (member-all 0 ks k h (inr t))
+    there k t = members-are (withAll 0 ks) k .1 (h k t, member-all 0 ks k h (inr t))
 
     back : Among (members (withAll 0 ks)) ks
-    back k t = ⊎-elim (λ q. absurd (false-not-true (member-none k) q)) (λ r. r) (all-member 0 ks k h (members-are (withAll 0 ks) k small .0 t))
+    back k t = ⊎-elim (λ q. absurd (false-not-true (member-none k) q)) (λ r. r) (all-member 0 ks k h (members-are (withAll 0 ks) k .0 t .1))
 
 members-printed : (s : List ℕ) (m : ℕ) → parseMembers s ≡ Set m → s ≡ printMembers m
 unfolding areMembers printMembers
