@@ -67,7 +67,7 @@ misplaced-exactly net side a m = elim (decEq m 0) [
     )
 ]
 
-head-or-later : (x m : ℕ) (l : List ℕ) → listed x (m ∷ l) ≡ true → (listed x l ≡ true) ⊎ (x ≡ m)
+pub head-or-later : (x m : ℕ) (l : List ℕ) → listed x (m ∷ l) ≡ true → (listed x l ≡ true) ⊎ (x ≡ m)
 unfolding listed
 head-or-later x m l t = ⊎-elim (λ e. inr (sym (eqb-true m x e))) inl (or-cases (eqb m x) (listed x l) t)
 

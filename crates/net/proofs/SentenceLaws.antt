@@ -220,3 +220,12 @@ accepted-not-refused v n p e = false-not-true refl (sym (ap (λ (s : Says). s .o
 
 pub chain-listed : (ss : List Sentence) → ascends (λ n. n) 0 ss ≡ true → (v : ℕ) {answer : Says} → Told refused ss (accepted v) answer → AsListed refused ss answer
 chain-listed ss a v t = told-listed refused refused-same (accepted v) (accepted-not-refused v) ss a t
+
+-- where no refusal holds the chain's value is said, and only there
+pub told-accepted : (ss : List Sentence) (v : ℕ) {answer : Says} → Told refused ss (accepted v) answer → (answer ≡ accepted v) ↔ NoneHolds ss
+told-accepted ss v (passed none) = ((λ e. none), (λ e. refl))
+told-accepted ss v (stopped n p o) = ((λ e. absurd (accepted-not-refused v n p (sym e))), (λ none. absurd (none n p (order-holds ss n p o))))
+
+pub told-ok : (ss : List Sentence) (v : ℕ) {answer : Says} → Told refused ss (accepted v) answer → answer .ok ≡ true → answer ≡ accepted v
+told-ok ss v (passed none) e = refl
+told-ok ss v (stopped n p o) e = absurd (false-not-true refl e)

@@ -10,7 +10,8 @@ use Rattle.obligations.specs.Sequence.{bindings, at, ψ, firstImpossible}
 use Rattle.obligations.proofs.TraceLaws.{shaped-facts, activities-below, shaped-ext}
 use Rattle.net.specs.Orderly.{orderly}
 use Rattle.net.specs.declared.Net.{Net}
-use Rattle.sequences.specs.Limits.{wordsWithin, traceWithin, withinLimits, traceWithinLimits}
+use Rattle.sequences.specs.Limits.{wordsWithin, withinLimits, traceWithinLimits}
+use Rattle.net.specs.Traces.{traceWithin}
 use Rattle.sequences.specs.Gain.{fits}
 use Rattle.sequences.specs.Learn.{firstWronglyEmpty, learnPositions, learnSays}
 use Rattle.sequences.specs.Follow.{followed, followPositions, followSays}

@@ -19,10 +19,11 @@ use Rattle.net.specs.declared.Net.{Net}
 use Rattle.walks.specs.Below.{anyBelow, sumBelow, withIf, thoseBelow, those}
 use Rattle.walks.specs.Arcs.{named, names, arc, arcs}
 use Rattle.walks.specs.Rows.{rowsFrom, rows, unionFrom, grown as grownBy, rounds, reach}
-use Rattle.walks.specs.Check.{onSides, inNet, successors, predecessors, outside, lost, lowest, lostSays, checkSays}
-use Rattle.sequences.specs.Limits.{wordsWithin, traceWithin, withinLimits, traceWithinLimits}
+use Rattle.walks.specs.Check.{onSides, inNet, successors, predecessors, outside, lost, lowestMember, lostSays, checkSays, onWalks}
+use Rattle.sequences.specs.Limits.{wordsWithin, withinLimits, traceWithinLimits}
 use Rattle.sequences.specs.Gain.{withPut, takesPut, withBinding, takesBinding, gained, fits}
-use Rattle.sequences.specs.Judge.{judgeSays, judgePositions, runSays, onWalks, firstMissing, onSideAt}
+use Rattle.sequences.specs.Judge.{judgeSays, judgePositions, runSays, firstMissing, onSideAt}
+use Rattle.net.specs.Traces.{traceWithin}
 use Rattle.sequences.specs.Learn.{emptyAgree, firstWronglyEmpty, learnPositions, learnSays, learnGives}
 use Rattle.sequences.specs.Follow.{followedFrom, followPositions, followSays, followGives}
 use Rattle.search.specs.Search.{trialsOf, later, orElse, behind, trialIf, trial, tryOutputs, tryInputs, atEnd, searchFrom, searchOf}
@@ -60,7 +61,7 @@ marked :
     × (judgeSays F (0 ∷ 0 ∷ 6 ∷ 2 ∷ 1 ∷ 8 ∷ 3 ∷ 4 ∷ 0 ∷ []) ≡ refused 11 0)
     × (answers (freshNet 0 3) (learn (0 ∷ 0 ∷ 2 ∷ 1 ∷ 3 ∷ 10 ∷ 3 ∷ 2 ∷ 0 ∷ []) ∷ []) ≡ refused 10 2 ∷ [])
     × (answers (freshNet 0 4) (learn fig4 ∷ learn fig4 ∷ []) ≡ accepted 12 ∷ accepted 0 ∷ [])
-unfolding judgeSays judgePositions onWalks runSays firstMissing onSideAt learnSays learnGives withinLimits wordsWithin bindings firstNoActivity firstFailing firstFrom learnPositions shaped endsAgree firstWronglyEmpty emptyAgree firstImpossible possibleAt possible run after taken added inputs outputs places members membersFrom keep allDue lowered raised allZero fits takesBinding takesPut withBinding withPut gained sideSays misplaced listed insert grows putMasks putLengths total freshNet orderly sized endsOk sidesOk blockOk allBelow ascendsAbove zeros trialsOf later orElse behind trialIf trial tryOutputs tryInputs atEnd searchFrom searchOf endSays replayed within checkedSays roomFits replayRefusal replaySays checkSays lostSays lowest lost outside successors predecessors inNet onSides reach rounds grownBy unionFrom rows rowsFrom arcs arc names named those thoseBelow withIf sumBelow number anyBelow union single member bit F fig4 answers
+unfolding judgeSays judgePositions onWalks runSays firstMissing onSideAt learnSays learnGives withinLimits wordsWithin bindings firstNoActivity firstFailing firstFrom learnPositions shaped endsAgree firstWronglyEmpty emptyAgree firstImpossible possibleAt possible run after taken added inputs outputs places members membersFrom keep allDue lowered raised allZero fits takesBinding takesPut withBinding withPut gained sideSays misplaced listed insert grows putMasks putLengths total freshNet orderly sized endsOk sidesOk blockOk allBelow ascendsAbove zeros trialsOf later orElse behind trialIf trial tryOutputs tryInputs atEnd searchFrom searchOf endSays replayed within checkedSays roomFits replayRefusal replaySays checkSays lostSays lowestMember lost outside successors predecessors inNet onSides reach rounds grownBy unionFrom rows rowsFrom arcs arc names named those thoseBelow withIf sumBelow number anyBelow union single member bit F fig4 answers
 marked = (refl, refl, refl, refl, refl, refl, refl, refl, refl, refl, refl, refl, refl)
 
 -- F is what three sequences give
@@ -91,5 +92,5 @@ nets :
     × (map checkSays (net ∷ larger ∷ other ∷ []) ≡ accepted 7 ∷ accepted 8 ∷ accepted 1 ∷ [])
     × (containedSays net larger ≡ accepted 1)
     × (containedSays net other ≡ accepted 0)
-unfolding learnSays learnGives withinLimits wordsWithin bindings firstNoActivity firstFailing firstFrom learnPositions shaped endsAgree firstWronglyEmpty emptyAgree firstImpossible possibleAt possible run after taken added inputs outputs places members membersFrom keep allDue lowered raised allZero fits takesBinding takesPut withBinding withPut gained sideSays misplaced listed insert grows putMasks putLengths total freshNet orderly sized endsOk sidesOk blockOk allBelow ascendsAbove zeros followSays followGives traceWithinLimits traceWithin followPositions followedFrom single checkSays lostSays lowest lost outside successors predecessors inNet onSides reach rounds grownBy unionFrom rows rowsFrom arcs arc names named those thoseBelow withIf sumBelow number anyBelow union member bit containedSays contained sidesWithin allListed calls more others fig4 grown answers
+unfolding learnSays learnGives withinLimits wordsWithin bindings firstNoActivity firstFailing firstFrom learnPositions shaped endsAgree firstWronglyEmpty emptyAgree firstImpossible possibleAt possible run after taken added inputs outputs places members membersFrom keep allDue lowered raised allZero fits takesBinding takesPut withBinding withPut gained sideSays misplaced listed insert grows putMasks putLengths total freshNet orderly sized endsOk sidesOk blockOk allBelow ascendsAbove zeros followSays followGives traceWithinLimits traceWithin followPositions followedFrom single checkSays lostSays lowestMember lost outside successors predecessors inNet onSides reach rounds grownBy unionFrom rows rowsFrom arcs arc names named those thoseBelow withIf sumBelow number anyBelow union member bit containedSays contained sidesWithin allListed calls more others fig4 grown answers
 nets = (refl, refl, refl, refl)

@@ -24,7 +24,8 @@ use Rattle.obligations.proofs.SequenceLaws.{possible-at, length-bindings}
 use Rattle.net.specs.Orderly.{orderly, Orderly}
 use Rattle.net.specs.declared.Net.{Net}
 use Rattle.net.proofs.OrderlyLaws.{orderly-facts, facts-orderly}
-use Rattle.sequences.specs.Limits.{wordsWithin, traceWithin}
+use Rattle.sequences.specs.Limits.{wordsWithin}
+use Rattle.net.specs.Traces.{traceWithin}
 use Rattle.sequences.specs.Gain.{fits, Fits}
 use Rattle.sequences.specs.Learn.{emptyAgree, firstWronglyEmpty}
 use Rattle.sequences.proofs.LimitLaws.{words-uneven, words-many, words-fit}

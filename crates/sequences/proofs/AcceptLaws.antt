@@ -1,8 +1,8 @@
 -- Which sequences are accepted: every link of the chain passes exactly if its sentence doesn't hold, and together they say
 -- well-formed and fitting. Assumes nothing.
-use Prim.Native.Nat.{ℕ, _+_, _*_, _/_, _%_, _^_, _≤_, _<_}
-use mathlib.Core.Path.{_≡_, refl, sym, subst}
-use mathlib.Core.Bool.{Bool, true, false, cond, Bool·beq}
+use Prim.Native.Nat.{ℕ, _+_, _*_, _/_, _%_, _≤_, _<_}
+use mathlib.Core.Path.{_≡_, refl}
+use mathlib.Core.Bool.{Bool, true, false, Bool·beq}
 use mathlib.Core.List.{List}
 use mathlib.Core.Logic.{_↔_}
 use native.Mathlib.Decide.{ℕ-discrete as decEq}
@@ -13,38 +13,35 @@ use lib.ListN.{length}
 use Rattle.obligations.specs.State.{allZero}
 use Rattle.obligations.specs.Trace.{firstNoActivity, shaped, Shaped}
 use Rattle.obligations.specs.Sequence.{Binding, bindings, at, ψ, WellFormed, firstImpossible}
-use Rattle.obligations.specs.Statements.{InputsAreMasks}
 use Rattle.obligations.proofs.BoolLaws.{and-left, and-right, and-both, false-not-true}
-use Rattle.obligations.proofs.CountLaws.{zero-count, count-zero}
 use Rattle.obligations.proofs.PositionLaws.{pass-first, first-pass}
 use Rattle.obligations.proofs.TraceLaws.{agree-iff, shaped-facts, facts-shaped, activities-below, below-activities}
-use Rattle.obligations.proofs.SequenceLaws.{none-impossible, held-at}
-use Rattle.net.specs.Refusals.{Says, refused}
+use Rattle.obligations.proofs.SequenceLaws.{none-impossible, zero-left}
+use Rattle.net.specs.Refusals.{Says}
 use Rattle.net.specs.Orderly.{orderly}
 use Rattle.net.specs.Put.{misplaced}
 use Rattle.net.specs.declared.Net.{Net}
 use Rattle.net.proofs.OrderlyLaws.{orderly-facts, facts-orderly}
-use Rattle.net.specs.Chains.{unless, noneAt}
+use Rattle.net.specs.Chains.{unlessAt, unless, noneAt}
 use Rattle.sequences.specs.Limits.{wordsWithin, withinLimits}
 use Rattle.sequences.specs.Gain.{fits}
 use Rattle.sequences.specs.Learn.{emptyAgree, firstWronglyEmpty, learnPositions, learnSays}
-use Rattle.sequences.specs.Statements.{Words, Learnable}
+use Rattle.sequences.specs.Statements.{Learnable}
 use Rattle.sequences.proofs.FitLaws.{Placed, fits-exactly}
 
 -- ---- a link of a chain
 
+pub unless-at-passes : (t : Bool) (n p : ℕ) (rest : Says) → (unlessAt t n p rest .ok ≡ true) ↔ ((t ≡ true) × (rest .ok ≡ true))
+unless-at-passes true n p rest = ((λ e. (refl, e)), (λ w. w .1))
+unless-at-passes false n p rest = ((λ e. absurd (false-not-true refl e)), (λ w. absurd (false-not-true refl (w .0))))
+
 pub unless-passes : (t : Bool) (n : ℕ) (rest : Says) → (unless t n rest .ok ≡ true) ↔ ((t ≡ true) × (rest .ok ≡ true))
-unless-passes true n rest = ((λ e. (refl, e)), (λ w. w .1))
-unless-passes false n rest = ((λ e. absurd (false-not-true refl e)), (λ w. absurd (false-not-true refl (w .0))))
+unless-passes t n rest = unless-at-passes t n 0 rest
 
 pub none-passes : (p n : ℕ) (rest : Says) → (noneAt p n rest .ok ≡ true) ↔ ((p ≡ 0) × (rest .ok ≡ true))
 none-passes p n rest =
-    let u = unless-cond (eqb p 0) in
+    let u = unless-at-passes (eqb p 0) n p rest in
     ((λ e. (eqb-true p 0 (u .0 e .0), u .0 e .1)), (λ w. u .1 (eq-eqb p 0 (w .0), w .1)))
-  where
-    unless-cond : (t : Bool) → (cond t rest (refused n p) .ok ≡ true) ↔ ((t ≡ true) × (rest .ok ≡ true))
-    unless-cond true = ((λ e. (refl, e)), (λ w. w .1))
-    unless-cond false = ((λ e. absurd (false-not-true refl e)), (λ w. absurd (false-not-true refl (w .0))))
 
 -- ---- refusal 9
 
@@ -83,9 +80,6 @@ well-placed net s h f i l = (
 
 -- ---- a sequence's words
 
-pub masks-of : (ws : List ℕ) → Words ws → InputsAreMasks (bindings ws)
-masks-of ws w i l = subst (λ (m : ℕ). m < 2 ^ 32) (sym (held-at ws i l .input-held)) (w (3 * i + 1))
-
 pub words-whole : (ws : List ℕ) → wordsWithin ws ≡ true → (n : ℕ) × (length ws ≡ 3 * n) × (n ≤ 64)
 unfolding wordsWithin
 words-whole ws e =
@@ -100,7 +94,7 @@ whole-words ws n e h = and-both (eq-eqb (length ws % 3) 0 (omega arith)) (le-leb
 -- ---- what learn accepts
 
 -- well-formed, by the tests of a chain
-module _ (start end : ℕ) (s : List Binding) (m : InputsAreMasks s) where
+module _ (start end : ℕ) (s : List Binding) where
   pub tests-well-formed : firstNoActivity (length s) (λ i. at s i .activity) ≡ 0 → shaped start end (length s) (λ i. at s i .activity) ≡ true → EmptyWhere s
       → firstImpossible s ≡ 0 → allZero (ψ s) ≡ true → WellFormed start end s
   tests-well-formed a h e p z = record {
@@ -108,12 +102,12 @@ module _ (start end : ℕ) (s : List Binding) (m : InputsAreMasks s) where
     shape = shaped-facts start end (length s) (λ i. at s i .activity) h;
     input-empty-first-only = e .inputs;
     output-empty-last-only = e .outputs;
-    each-possible = none-impossible s m .0 p;
-    nothing-left = zero-count (ψ s) z;
+    each-possible = none-impossible s .0 p;
+    nothing-left = zero-left s .0 z;
   }
 
 -- each test, from well-formed
-module _ (start end : ℕ) (s : List Binding) (m : InputsAreMasks s) (f : WellFormed start end s) where
+module _ (start end : ℕ) (s : List Binding) (f : WellFormed start end s) where
   pub formed-activities : firstNoActivity (length s) (λ i. at s i .activity) ≡ 0
   formed-activities = below-activities (length s) (λ i. at s i .activity) (f .activities-only)
 
@@ -124,12 +118,12 @@ module _ (start end : ℕ) (s : List Binding) (m : InputsAreMasks s) (f : WellFo
   formed-empty = record { inputs = f .input-empty-first-only; outputs = f .output-empty-last-only }
 
   pub formed-possible : firstImpossible s ≡ 0
-  formed-possible = none-impossible s m .1 (f .each-possible)
+  formed-possible = none-impossible s .1 (f .each-possible)
 
   pub formed-zero : allZero (ψ s) ≡ true
-  formed-zero = count-zero (ψ s) (f .nothing-left)
+  formed-zero = zero-left s .1 (f .nothing-left)
 
-module _ (net : Net) (ws : List ℕ) (w : Words ws) where
+module _ (net : Net) (ws : List ℕ) where
   pub accepted-learnable : learnSays net ws .ok ≡ true → Learnable net ws
   unfolding learnSays withinLimits learnPositions
   accepted-learnable e =
@@ -143,7 +137,7 @@ module _ (net : Net) (ws : List ℕ) (w : Words ws) where
       let c₁₁ = unless-passes (allZero (ψ s)) 11 _ .0 (c₁₀ .1) in
       let c₁₂ = unless-passes (fits net s) 12 _ .0 (c₁₁ .1) in
       let n = words-whole ws (c₃ .0) in
-      let f = tests-well-formed (net .start) (net .end) s (masks-of ws w) (c₄ .0) (c₇ .0) (empty-facts s (c₉ .0)) (c₁₀ .0) (c₁₁ .0) in
+      let f = tests-well-formed (net .start) (net .end) s (c₄ .0) (c₇ .0) (empty-facts s (c₉ .0)) (c₁₀ .0) (c₁₁ .0) in
       record {
         net-orderly = orderly-facts net (c₂ .0);
         count = n .0;
@@ -158,16 +152,15 @@ module _ (net : Net) (ws : List ℕ) (w : Words ws) where
   learnable-accepted l =
       let s = bindings ws in
       let f = l .well-formed in
-      let m = masks-of ws w in
       let o = facts-orderly net (l .net-orderly) in
-      let e = formed-empty (net .start) (net .end) s m f in
+      let e = formed-empty (net .start) (net .end) s f in
       rw (
         o,
         whole-words ws (l .count) (l .whole) (l .few),
-        formed-activities (net .start) (net .end) s m f,
-        formed-shaped (net .start) (net .end) s m f,
+        formed-activities (net .start) (net .end) s f,
+        formed-shaped (net .start) (net .end) s f,
         facts-empty s e,
-        formed-possible (net .start) (net .end) s m f,
-        formed-zero (net .start) (net .end) s m f,
+        formed-possible (net .start) (net .end) s f,
+        formed-zero (net .start) (net .end) s f,
         fits-exactly net s o (f .activities-only) (well-placed net s (f .shape) e) .1 (l .fitting),
       )

@@ -17,17 +17,16 @@ use Rattle.obligations.proofs.BoolLaws.{and-both}
 use Rattle.obligations.proofs.SetLaws.{lt-or-le}
 use Rattle.obligations.proofs.StateLaws.{possible-none, taken-none, added-none, handed-possible, handed-taken, nothing-zero}
 use Rattle.obligations.proofs.SequenceLaws.{bindings-words, length-words, held-at}
-use Rattle.sequences.specs.Run.{Positions, TracePositions}
 use Rattle.obligations.specs.Trace.{shaped}
 use Rattle.obligations.proofs.TraceLaws.{shaped-ext}
 use Rattle.net.specs.Refusals.{accepted, full-side}
 use Rattle.net.specs.Orderly.{orderly}
 use Rattle.net.specs.declared.Net.{Net}
 use Rattle.net.specs.Chains.{unless}
-use Rattle.sequences.specs.Limits.{limitsMeans, TraceLimitsOf}
 use Rattle.sequences.specs.Gain.{gained, fits}
-use Rattle.sequences.specs.Learn.{newSets, GainDone, RefusedWith}
-use Rattle.sequences.specs.Follow.{followedFrom, followed, nextSet, followPositions, followSays, followGives, TraceDone, FollowDone}
+use Rattle.sequences.specs.Learn.{newSets}
+use Rattle.sequences.specs.Follow.{followedFrom, followed, followPositions, followSays, followGives, FollowDone}
+use Rattle.sequences.specs.Inner.{Positions, TracePositions, limitsMeans, TraceLimitsOf, GainDone, RefusedWith, nextSet, TraceDone}
 use Rattle.sequences.specs.declared.Limited.{Limited}
 use Rattle.sequences.specs.declared.Limited.the-variants.{Within, Beyond}
 use Rattle.sequences.specs.declared.LearnResult.{LearnResult}

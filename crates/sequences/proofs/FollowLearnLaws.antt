@@ -23,7 +23,8 @@ use Rattle.net.specs.Refusals.{Says, accepted, refused}
 use Rattle.net.specs.Orderly.{orderly}
 use Rattle.net.specs.declared.Net.{Net}
 use Rattle.net.specs.Chains.{unless, noneAt}
-use Rattle.sequences.specs.Limits.{wordsWithin, traceWithin, withinLimits, traceWithinLimits}
+use Rattle.sequences.specs.Limits.{wordsWithin, withinLimits, traceWithinLimits}
+use Rattle.net.specs.Traces.{traceWithin}
 use Rattle.sequences.specs.Gain.{fits}
 use Rattle.sequences.specs.Learn.{firstWronglyEmpty, newSets, learnPositions, learnSays, learnGives}
 use Rattle.sequences.specs.Follow.{followedFrom, followed, followPositions, followSays, followGives}

@@ -20,8 +20,9 @@ use Rattle.net.specs.declared.Side.the-variants.{Input, Output}
 use Rattle.net.proofs.SideLaws.{OrderlySides}
 use Rattle.net.proofs.PutSideLaws.{put-side-total, put-side-orderly, side-value}
 use Rattle.net.proofs.OrderlyLaws.{orderly-sides}
-use Rattle.sequences.specs.Gain.{withPut, takesPut, withBinding, takesBinding, gained, fits, gainedBy}
-use Rattle.sequences.specs.Learn.{GainDone, RefusedWith, newSets}
+use Rattle.sequences.specs.Gain.{withPut, takesPut, withBinding, takesBinding, gained, fits}
+use Rattle.sequences.specs.Learn.{newSets}
+use Rattle.sequences.specs.Inner.{gainedBy, GainDone, RefusedWith}
 use Rattle.sequences.specs.declared.LearnResult.{LearnResult}
 use Rattle.sequences.specs.declared.gaining.Gained.the-variants.{Added, NoRoom}
 

@@ -102,10 +102,10 @@ gained-contained net (b ∷ s) o h =
     (gained-contained (withBinding net b) s (with-binding-orderly net b o (h 0 (omega arith))) (λ i l. h (suc i) (omega arith)))
 
 -- the sets that a sequence has for a side, at its first position or after it
-set-first : (t : Side) (b : Binding) (s : List Binding) {a m : ℕ} → b .activity ≡ a → setFor t b ≡ m → SetOf t (b ∷ s) a m
+pub set-first : (t : Side) (b : Binding) (s : List Binding) {a m : ℕ} → b .activity ≡ a → setFor t b ≡ m → SetOf t (b ∷ s) a m
 set-first t b s ea em = record { position = 0; inside = omega arith; activity-is = ea; set-is = em }
 
-set-later : (t : Side) (b : Binding) (s : List Binding) {a m : ℕ} → SetOf t s a m → SetOf t (b ∷ s) a m
+pub set-later : (t : Side) (b : Binding) (s : List Binding) {a m : ℕ} → SetOf t s a m → SetOf t (b ∷ s) a m
 set-later t b s f = record { position = suc (f .position); inside = omega (arith, f .inside); activity-is = f .activity-is; set-is = f .set-is }
 
 set-cases : (t : Side) (b : Binding) (s : List Binding) {a m : ℕ} → SetOf t (b ∷ s) a m → ((b .activity ≡ a) × (setFor t b ≡ m)) ⊎ SetOf t s a m

@@ -25,10 +25,10 @@ use Rattle.net.specs.Refusals.{refused}
 use Rattle.net.specs.Orderly.{orderly}
 use Rattle.net.specs.declared.Net.{Net}
 use Rattle.net.specs.declared.Side.the-variants.{Input, Output}
-use Rattle.walks.specs.Check.{lost, lowest}
-use Rattle.sequences.specs.Limits.{limitsMeans, LimitsOf}
-use Rattle.sequences.specs.Run.{Positions, largestTotal, outputSizes, ran}
-use Rattle.sequences.specs.Judge.{onSideAt, firstMissing, onWalks, runSays, judgePositions, judgeSays, PeakOf, RunJudged, PositionsJudged, JudgeDone, earlier}
+use Rattle.walks.specs.Check.{lost, lowestMember, onWalks}
+use Rattle.sequences.specs.Run.{largestTotal, outputSizes, ran}
+use Rattle.sequences.specs.Judge.{onSideAt, firstMissing, runSays, judgePositions, judgeSays, PeakOf, JudgeDone, earlier}
+use Rattle.sequences.specs.Inner.{limitsMeans, LimitsOf, Positions, RunJudged, PositionsJudged}
 use Rattle.sequences.specs.declared.JudgeAnswer.{JudgeAnswer}
 use Rattle.sequences.specs.declared.JudgeAnswer.the-variants.{Judged, Refused}
 use Rattle.sequences.specs.declared.Limited.{Limited}
@@ -178,9 +178,9 @@ module _ (s : List Binding) (h : Activities s) where
       }
 
 module _ (net : Net) (s : List Binding) where
-  pub refused-lost : (lost net ≡ 0 → ⊥) → PositionsJudged net s (Refused 6 (lowest (lost net)))
+  pub refused-lost : (lost net ≡ 0 → ⊥) → PositionsJudged net s (Refused 6 (lowestMember (lost net)))
   unfolding judgePositions onWalks
-  refused-lost ne = record { says = rw (ne-eqb (lost net) 0 ne); peak-of = refused-peak s 6 (lowest (lost net)) }
+  refused-lost ne = record { says = rw (ne-eqb (lost net) 0 ne); peak-of = refused-peak s 6 (lowestMember (lost net)) }
 
   module _ (w : lost net ≡ 0) where
     pub judged-ends : shaped (net .start) (net .end) (length s) (λ i. at s i .activity) ≡ false → PositionsJudged net s (Refused 7 0)

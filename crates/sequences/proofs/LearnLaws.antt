@@ -16,9 +16,9 @@ use Rattle.net.specs.Orderly.{orderly}
 use Rattle.net.specs.declared.Net.{Net}
 use Rattle.net.specs.Chains.{unless}
 use Rattle.sequences.specs.Run.{ran}
-use Rattle.sequences.specs.Limits.{limitsMeans, LimitsOf}
 use Rattle.sequences.specs.Gain.{gained, fits}
-use Rattle.sequences.specs.Learn.{emptyAgree, firstWronglyEmpty, newSets, learnPositions, learnSays, learnGives, GainDone, RefusedWith, PositionsDone, LearnDone}
+use Rattle.sequences.specs.Learn.{emptyAgree, firstWronglyEmpty, newSets, learnPositions, learnSays, learnGives, LearnDone}
+use Rattle.sequences.specs.Inner.{limitsMeans, LimitsOf, GainDone, RefusedWith, PositionsDone}
 use Rattle.sequences.specs.declared.Limited.{Limited}
 use Rattle.sequences.specs.declared.Limited.the-variants.{Within, Beyond}
 use Rattle.sequences.specs.declared.LearnResult.{LearnResult}

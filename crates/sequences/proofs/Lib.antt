@@ -11,4 +11,5 @@ pub mod AcceptLaws
 pub mod FollowLearnLaws
 pub mod JudgeLaws
 pub mod ValidLaws
+pub mod RefusalLaws
 pub mod Theorems

@@ -12,8 +12,9 @@ use Rattle.obligations.specs.Trace.{firstNoActivity}
 use Rattle.obligations.specs.Sequence.{bindings, at}
 use Rattle.obligations.proofs.TraceLaws.{no-activity-ext, activities-below}
 use Rattle.obligations.proofs.SequenceLaws.{held-at, length-bindings}
-use Rattle.sequences.specs.Run.{Positions, TracePositions}
-use Rattle.sequences.specs.Limits.{wordsWithin, traceWithin, withinLimits, traceWithinLimits, LimitsOf, TraceLimitsOf}
+use Rattle.sequences.specs.Limits.{wordsWithin, withinLimits, traceWithinLimits}
+use Rattle.sequences.specs.Inner.{Positions, TracePositions, LimitsOf, TraceLimitsOf}
+use Rattle.net.specs.Traces.{traceWithin}
 use Rattle.sequences.specs.declared.Limited.the-variants.{Within, Beyond}
 
 beyond-not-within : {k p n : ℕ} {A : Type 0} → Beyond k p ≡ Within n → A

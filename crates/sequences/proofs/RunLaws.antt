@@ -23,7 +23,8 @@ use Rattle.obligations.proofs.TraceLaws.{pass-more}
 use Rattle.obligations.proofs.SequenceLaws.{fired, ψ-next, ψ-state, pass-impossible, fails-impossible}
 use Rattle.obligations.proofs.BoolLaws.{true-or-false}
 use Rattle.sequences.proofs.WordLaws.{positions-many, activity-here, input-here, output-here, activity-below}
-use Rattle.sequences.specs.Run.{Positions, largestTotal, ran}
+use Rattle.sequences.specs.Run.{largestTotal, ran}
+use Rattle.sequences.specs.Inner.{Positions}
 use Rattle.sequences.specs.declared.Ran.the-variants.{Impossible, LeftOver, Settled}
 
 -- ---- the three answers

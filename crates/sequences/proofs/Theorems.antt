@@ -9,21 +9,53 @@ use Rattle.obligations.specs.State.{allZero}
 use Rattle.obligations.specs.Trace.{firstNoActivity, shaped}
 use Rattle.obligations.specs.Sequence.{bindings, at, ψ, WellFormed, firstImpossible}
 use Rattle.obligations.proofs.TraceLaws.{activities-below}
+use Rattle.net.specs.Refusals.{Says, accepted}
 use Rattle.net.specs.Orderly.{orderly}
 use Rattle.net.specs.declared.Net.{Net}
 use Rattle.net.specs.declared.Side.the-variants.{Input, Output}
 use Rattle.net.proofs.OrderlyLaws.{orderly-facts}
+use Rattle.net.proofs.SentenceLaws.{told-accepted, told-ok}
 use Rattle.sequences.specs.Limits.{wordsWithin, withinLimits}
 use Rattle.sequences.specs.Gain.{gained, fits}
-use Rattle.sequences.specs.Learn.{firstWronglyEmpty, learnPositions, learnSays, learnGives}
-use Rattle.sequences.specs.Statements.{LearnAccepts, LearnHolds, LearnValid, FollowLearns, JudgeAccepts}
+use Rattle.sequences.specs.Learn.{learnRefusals, firstWronglyEmpty, newSets, learnPositions, learnSays, learnGives}
+use Rattle.sequences.specs.Follow.{followGives}
+use Rattle.sequences.specs.Judge.{judgeRefusals, judgeSays}
+use Rattle.sequences.specs.Statements.{LearnListed, FollowListed, JudgeListed, NoneHoldsLearnable, LearnAccepts, LearnHolds, LearnValid, RefusedSame, FollowLearns, NoneHoldsJudgeable, JudgeAccepts}
 use Rattle.sequences.proofs.AcceptLaws.{unless-passes, none-passes, accepted-learnable, learnable-accepted}
-use Rattle.sequences.proofs.ValidLaws.{accepted-acceptable, acceptable-accepted}
+use Rattle.sequences.proofs.ValidLaws.{accepted-judgeable, judgeable-accepted}
+use Rattle.sequences.proofs.RefusalLaws.{learn-told, learn-listed, follow-listed, judge-told, judge-listed}
 use Rattle.sequences.proofs.GrowthLaws.{Activities, gained-orderly, gained-contained, gained-on-side}
 use Rattle.sequences.proofs.FollowLearnLaws.{follow-is-learn}
 
+-- ---- the refusals
+
+pub learn-as-listed : LearnListed
+learn-as-listed = learn-listed
+
+pub follow-as-listed : FollowListed
+follow-as-listed = follow-listed
+
+pub judge-as-listed : JudgeListed
+judge-as-listed = judge-listed
+
+-- ---- learn
+
+-- what is said where the tests pass
+learn-value : (net : Net) (ws : List ℕ) → learnSays net ws .ok ≡ true → learnSays net ws ≡ accepted (newSets net (bindings ws))
+learn-value net ws e = told-ok (learnRefusals net ws) (newSets net (bindings ws)) (learn-told net ws) e
+
 pub learn-accepts : LearnAccepts
-learn-accepts net ws w = (accepted-learnable net ws w, learnable-accepted net ws w)
+learn-accepts net ws = (
+  (λ w. accepted-learnable net ws (ap (λ (s : Says). s .ok) (w .1))),
+  (λ l. (newSets net (bindings ws), learn-value net ws (learnable-accepted net ws l))),
+)
+
+pub none-holds-learnable : NoneHoldsLearnable
+none-holds-learnable net ws =
+    let t = told-accepted (learnRefusals net ws) (newSets net (bindings ws)) (learn-told net ws) in (
+      (λ none. accepted-learnable net ws (ap (λ (s : Says). s .ok) (t .1 none))),
+      (λ l. t .0 (learn-value net ws (learnable-accepted net ws l))),
+    )
 
 -- what an accepted learn shows of the net and the sequence
 pub record Accepted (net : Net) (ws : List ℕ) : Type 0 where
@@ -50,7 +82,8 @@ unfolding learnGives
 accepted-gives net ws e = rw e
 
 pub learn-holds : LearnHolds
-learn-holds net ws e =
+learn-holds net ws new said =
+    let e = ap (λ (s : Says). s .ok) said in
     let p = accepted-parts net ws e in
     let g = accepted-gives net ws e in
     let c = gained-contained net (bindings ws) (p .net-orderly) (p .activities-only) in
@@ -62,11 +95,12 @@ learn-holds net ws e =
     }
 
 pub learn-valid : LearnValid
-learn-valid net ws w e =
+learn-valid net ws new said =
+    let e = ap (λ (s : Says). s .ok) said in
     let s = bindings ws in
     let p = accepted-parts net ws e in
     let k = gained-contained net s (p .net-orderly) (p .activities-only) in
-    let f = accepted-learnable net ws w e .well-formed in
+    let f = accepted-learnable net ws e .well-formed in
     rw (accepted-gives net ws e)
     (record {
       well-formed = subst (λ (b : ℕ). WellFormed (gained net s .start) b s) (k .same-end) (subst (λ (a : ℕ). WellFormed a (net .end) s) (k .same-start) f);
@@ -77,5 +111,21 @@ learn-valid net ws w e =
 pub follow-learns : FollowLearns
 follow-learns = follow-is-learn
 
+pub refused-same : RefusedSame
+unfolding learnGives followGives
+refused-same net ws n p = ((λ e. rw (ap (λ (s : Says). s .ok) e)), (λ e. rw (ap (λ (s : Says). s .ok) e)))
+
+-- ---- judge
+
 pub judge-accepts : JudgeAccepts
-judge-accepts net ws k w = (accepted-acceptable net ws k w, acceptable-accepted net ws k w)
+judge-accepts net ws peak = (
+  (λ e. accepted-judgeable net ws (ap (λ (s : Says). s .ok) e)),
+  (λ l. told-ok (judgeRefusals net ws) 0 (judge-told net ws) (judgeable-accepted net ws l)),
+)
+
+pub none-holds-judgeable : NoneHoldsJudgeable
+none-holds-judgeable net ws =
+    let t = told-accepted (judgeRefusals net ws) 0 (judge-told net ws) in (
+      (λ none. judge-accepts net ws 0 .0 (t .1 none)),
+      (λ l. t .0 (judge-accepts net ws 0 .1 l)),
+    )

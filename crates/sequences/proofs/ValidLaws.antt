@@ -1,8 +1,8 @@
 -- What judge accepts: the tests of its chain together say that the net passes and the sequence is valid. In an orderly net the
 -- sides themselves say where a set may be empty. Assumes nothing.
 use Prim.Native.Nat.{ℕ, _<_}
-use mathlib.Core.Path.{_≡_, refl, subst}
-use mathlib.Core.Bool.{Bool, true, false, cond, _&&_}
+use mathlib.Core.Path.{_≡_, subst}
+use mathlib.Core.Bool.{true, _&&_}
 use mathlib.Core.List.{List}
 use mathlib.Core.Logic.{_↔_}
 use native.Mathlib.Decide.{ℕ-discrete as decEq}
@@ -16,32 +16,28 @@ use Rattle.obligations.proofs.BoolLaws.{and-left, and-right, and-both, false-no
 use Rattle.obligations.proofs.PositionLaws.{pass-first, first-pass}
 use Rattle.obligations.proofs.TraceLaws.{shaped-facts, activities-below}
 use Rattle.net.specs.Lists.{listed}
-use Rattle.net.specs.Refusals.{Says, refused}
-use Rattle.net.specs.Sides.{OnSide, setsOn, emptyAt, Masks}
+use Rattle.net.specs.Refusals.{Says}
+use Rattle.net.specs.Sides.{OnSide, setsOn, emptyAt}
 use Rattle.net.specs.Orderly.{orderly, Orderly}
 use Rattle.net.specs.declared.Net.{Net}
 use Rattle.net.specs.declared.Side.{Side}
 use Rattle.net.specs.declared.Side.the-variants.{Input, Output}
 use Rattle.net.proofs.ListLaws.{listed-one}
 use Rattle.net.proofs.OrderlyLaws.{orderly-facts, facts-orderly}
-use Rattle.walks.specs.Check.{lost, lowest}
+use Rattle.walks.specs.Check.{lost, lowestMember, onWalks}
 use Rattle.walks.proofs.CheckLaws.{none-lost-passes, passes-none-lost}
 use Rattle.sequences.specs.Limits.{wordsWithin, withinLimits}
-use Rattle.sequences.specs.Judge.{onSideAt, firstMissing, onWalks, runSays, judgePositions, judgeSays}
-use Rattle.sequences.specs.Statements.{Words, Judgeable}
-use Rattle.sequences.proofs.AcceptLaws.{unless-passes, none-passes, EmptyWhere, masks-of, words-whole, whole-words, tests-well-formed, formed-activities, formed-shaped, formed-possible, formed-zero}
+use Rattle.sequences.specs.Judge.{onSideAt, firstMissing, runSays, judgePositions, judgeSays}
+use Rattle.sequences.specs.Statements.{Judgeable}
+use Rattle.sequences.proofs.AcceptLaws.{unless-at-passes, unless-passes, none-passes, EmptyWhere, words-whole, whole-words, tests-well-formed, formed-activities, formed-shaped, formed-possible, formed-zero}
 
 -- ---- refusals 6 and 8
 
 walks-pass : (net : Net) (rest : Says) → (onWalks net rest .ok ≡ true) ↔ ((lost net ≡ 0) × (rest .ok ≡ true))
 unfolding onWalks
 walks-pass net rest =
-    let u = go (eqb (lost net) 0) in
+    let u = unless-at-passes (eqb (lost net) 0) 6 (lowestMember (lost net)) rest in
     ((λ e. (eqb-true (lost net) 0 (u .0 e .0), u .0 e .1)), (λ w. u .1 (eq-eqb (lost net) 0 (w .0), w .1)))
-  where
-    go : (t : Bool) → (cond t rest (refused 6 (lowest (lost net))) .ok ≡ true) ↔ ((t ≡ true) × (rest .ok ≡ true))
-    go true = ((λ e. (refl, e)), (λ w. w .1))
-    go false = ((λ e. absurd (false-not-true refl e)), (λ w. absurd (false-not-true refl (w .0))))
 
 -- each set is on its side
 pub record AllOnSides (net : Net) (s : List Binding) : Type 0 where
@@ -79,10 +75,10 @@ sides-empty net s o a h f = record {
 
 -- ---- what judge accepts
 
-module _ (net : Net) (ws : List ℕ) (k : Masks net) (w : Words ws) where
-  pub accepted-acceptable : judgeSays net ws .ok ≡ true → Judgeable net ws
+module _ (net : Net) (ws : List ℕ) where
+  pub accepted-judgeable : judgeSays net ws .ok ≡ true → Judgeable net ws
   unfolding judgeSays withinLimits judgePositions runSays
-  accepted-acceptable e =
+  accepted-judgeable e =
       let s = bindings ws in
       let c₂ = unless-passes (orderly net) 2 _ .0 e in
       let c₃ = unless-passes (wordsWithin ws) 3 _ .0 (c₂ .1) in
@@ -98,31 +94,30 @@ module _ (net : Net) (ws : List ℕ) (k : Masks net) (w : Words ws) where
       let a = activities-below (length s) (λ i. at s i .activity) (c₄ .0) in
       let em = sides-empty net s o a (shaped-facts (net .start) (net .end) (length s) (λ i. at s i .activity) (c₇ .0)) on in
       record {
-        passes = none-lost-passes net (c₂ .0) k (c₆ .0);
+        passes = none-lost-passes net (c₂ .0) (c₆ .0);
         count = n .0;
         whole = n .1;
         few = n .2;
         valid = record {
-          well-formed = tests-well-formed (net .start) (net .end) s (masks-of ws w) (c₄ .0) (c₇ .0) em (c₁₀ .0) (c₁₁ .0);
+          well-formed = tests-well-formed (net .start) (net .end) s (c₄ .0) (c₇ .0) em (c₁₀ .0) (c₁₁ .0);
           inputs-on-side = on .inputs;
           outputs-on-side = on .outputs;
         };
       }
 
-  pub acceptable-accepted : Judgeable net ws → judgeSays net ws .ok ≡ true
+  pub judgeable-accepted : Judgeable net ws → judgeSays net ws .ok ≡ true
   unfolding judgeSays withinLimits judgePositions onWalks runSays
-  acceptable-accepted l =
+  judgeable-accepted l =
       let s = bindings ws in
       let f = l .valid .well-formed in
-      let m = masks-of ws w in
       let o = facts-orderly net (l .passes .is-orderly) in
       rw (
         o,
         whole-words ws (l .count) (l .whole) (l .few),
-        formed-activities (net .start) (net .end) s m f,
+        formed-activities (net .start) (net .end) s f,
         passes-none-lost net o (l .passes),
-        formed-shaped (net .start) (net .end) s m f,
+        formed-shaped (net .start) (net .end) s f,
         none-missing net s (record { inputs = l .valid .inputs-on-side; outputs = l .valid .outputs-on-side }),
-        formed-possible (net .start) (net .end) s m f,
-        formed-zero (net .start) (net .end) s m f,
+        formed-possible (net .start) (net .end) s f,
+        formed-zero (net .start) (net .end) s f,
       )

@@ -8,7 +8,7 @@ use Rattle.obligations.specs.Sequence.{bindings, at}
 use Rattle.obligations.specs.Trace.{shaped}
 use Rattle.obligations.proofs.TraceLaws.{shaped-ext}
 use Rattle.obligations.proofs.SequenceLaws.{HeldAt, held-at, length-bindings}
-use Rattle.sequences.specs.Run.{Positions}
+use Rattle.sequences.specs.Inner.{Positions}
 
 pub positions-many : (ws : List ℕ) (n : ℕ) → Positions ws n → length (bindings ws) ≡ n
 positions-many ws n p = length-bindings ws n (p .whole)

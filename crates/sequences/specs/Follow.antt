@@ -1,19 +1,20 @@
 -- Follow (01, "Follow"; 000, Definition 6): refusals 2, 3, 4, 7, 12 in this order.
-use Prim.Native.Nat.{ℕ, _+_}
+use Prim.Native.Nat.{ℕ}
 use mathlib.Core.Path.{_≡_}
 use mathlib.Core.Bool.{cond}
 use mathlib.Core.List.{List, [], _∷_}
-use lib.Dec.{ltb}
-use lib.ListN.{length, getD}
+use lib.ListN.{length}
 use Rattle.obligations.specs.Sets.{single}
-use Rattle.obligations.specs.Trace.{shaped}
 use Rattle.obligations.specs.Sequence.{Binding}
 use Rattle.net.specs.Refusals.{Says, accepted, disorderly, wrong-ends, full-side}
-use Rattle.net.specs.Orderly.{orderly}
-use Rattle.net.specs.declared.Net.{Net}
+use Rattle.net.specs.Sentences.{Sentence}
 use Rattle.net.specs.Chains.{unless}
-use Rattle.sequences.specs.Limits.{traceWithinLimits}
-use Rattle.sequences.specs.Gain.{gained, fits}
+use Rattle.net.specs.Orderly.{orderly}
+use Rattle.net.specs.Common.{notOrderly, notActivities, notShaped}
+use Rattle.net.specs.Traces.{activityIn, traceShaped}
+use Rattle.net.specs.declared.Net.{Net}
+use Rattle.sequences.specs.Limits.{longTrace, traceWithinLimits}
+use Rattle.sequences.specs.Gain.{notFitting, gained, fits}
 use Rattle.sequences.specs.Learn.{learnMeans, newSets}
 use Rattle.sequences.specs.declared.LearnResult.{LearnResult}
 
@@ -27,14 +28,20 @@ followedFrom x (a ∷ b ∷ trace) = record { activity = a; input = x; output = 
 abbrev pub followed : List ℕ → List Binding
 followed trace = followedFrom 0 trace
 
--- the Y of the position after i others
-unfoldable pub nextSet : List ℕ → ℕ → ℕ
-nextSet trace i = cond (ltb (i + 1) (length trace)) (single (getD trace (i + 1) 0)) 0
+-- the refusals: 9, 10 and 11 aren't given by follow, as they can't hold of the sequence that it makes
+abbrev pub followRefusals : Net → List ℕ → List Sentence
+followRefusals net trace =
+    notOrderly net
+    ∷ longTrace trace
+    ∷ notActivities (length trace) (activityIn trace)
+    ∷ notShaped net (length trace) (activityIn trace)
+    ∷ notFitting net (followed trace)
+    ∷ []
 
 -- refusals 7 and 12, of a trace within the limits
 unfoldable pub followPositions : Net → List ℕ → Says
 followPositions net trace =
-    unless (shaped (net .start) (net .end) (length trace) (λ i. getD trace i 0)) wrong-ends
+    unless (traceShaped (net .start) (net .end) trace) wrong-ends
     (unless (fits net (followed trace)) full-side
     (accepted (newSets net (followed trace))))
 
@@ -44,10 +51,6 @@ followSays net trace = unless (orderly net) disorderly (traceWithinLimits trace 
 
 unfoldable pub followGives : Net → List ℕ → Net
 followGives net trace = cond (followSays net trace .ok) (gained net (followed trace)) net
-
-pub record TraceDone (net : Net) (trace : List ℕ) (r : LearnResult) : Type 0 where
-  pub says : learnMeans (r .answer) ≡ followPositions net trace
-  pub gives : r .net ≡ cond (followPositions net trace .ok) (gained net (followed trace)) net
 
 pub record FollowDone (net : Net) (trace : List ℕ) (r : LearnResult) : Type 0 where
   pub says : learnMeans (r .answer) ≡ followSays net trace

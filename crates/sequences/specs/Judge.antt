@@ -2,7 +2,7 @@
 use Prim.Native.Nat.{ℕ, min, _≤_}
 use mathlib.Core.Path.{_≡_}
 use mathlib.Core.Bool.{Bool, cond, _&&_}
-use mathlib.Core.List.{List}
+use mathlib.Core.List.{List, [], _∷_}
 use lib.Dec.{eqb}
 use lib.ListN.{length}
 use Rattle.obligations.specs.Tests.{firstFailing}
@@ -10,24 +10,47 @@ use Rattle.obligations.specs.Trace.{shaped}
 use Rattle.obligations.specs.State.{nothing, allZero}
 use Rattle.obligations.specs.Sequence.{Binding, bindings, at, ψ, firstImpossible}
 use Rattle.net.specs.Lists.{listed}
-use Rattle.net.specs.Refusals.{Says, accepted, refused, disorderly, on-no-walk, wrong-ends, missing-set, not-possible, left-over}
-use Rattle.net.specs.Sides.{setsOn}
+use Rattle.net.specs.Refusals.{Says, accepted, refused, disorderly, wrong-ends, missing-set, not-possible, left-over}
+use Rattle.net.specs.Sentences.{Sentence, first}
+use Rattle.net.specs.Chains.{unless, noneAt}
+use Rattle.net.specs.Sides.{setsOn, OnSide}
 use Rattle.net.specs.Orderly.{orderly}
+use Rattle.net.specs.Common.{notOrderly, notActivities, notShaped}
 use Rattle.net.specs.declared.Net.{Net}
 use Rattle.net.specs.declared.Side.{Side}
 use Rattle.net.specs.declared.Side.the-variants.{Input, Output}
-use Rattle.walks.specs.Check.{lost, lowest}
-use Rattle.net.specs.Chains.{unless, noneAt}
-use Rattle.sequences.specs.Limits.{withinLimits}
-use Rattle.sequences.specs.Run.{largestTotal, outputSizes}
+use Rattle.walks.specs.Check.{onNoWalk, onWalks}
+use Rattle.sequences.specs.Limits.{activityOf, notSequence, withinLimits}
+use Rattle.sequences.specs.Run.{notPossible, leftOver, largestTotal, outputSizes}
 use Rattle.sequences.specs.Gain.{setFor}
 use Rattle.sequences.specs.declared.JudgeAnswer.{JudgeAnswer}
 use Rattle.sequences.specs.declared.JudgeAnswer.the-variants.{Judged, Refused}
 
--- what each answer says; the peak is left free, within bounds, and isn't part of it
+-- what each answer means; the peak is left free, within bounds, and isn't part of it
 abbrev pub judgeMeans : JudgeAnswer → Says
 judgeMeans (Judged peak) = accepted 0
 judgeMeans (Refused n p) = refused n p
+
+-- ---- the refusals
+
+-- 8: a position's X or Y isn't in the net; i is the number of positions before it
+abbrev pub Missing : Net → List Binding → ℕ → Type 0
+Missing net s i = OnSide net Input (at s i .activity) (at s i .input) × OnSide net Output (at s i .activity) (at s i .output) → ⊥
+
+abbrev pub judgeRefusals : Net → List ℕ → List Sentence
+judgeRefusals net ws =
+    let s = bindings ws in
+    notOrderly net
+    ∷ notSequence ws
+    ∷ notActivities (length s) (activityOf s)
+    ∷ onNoWalk net
+    ∷ notShaped net (length s) (activityOf s)
+    ∷ first missing-set (length s) (Missing net s)
+    ∷ notPossible s
+    ∷ leftOver s
+    ∷ []
+
+-- ---- what is said
 
 -- the set that the binding after i others has for a kind of side is on its activity's side
 unfoldable pub onSideAt : Net → Side → List Binding → ℕ → Bool
@@ -37,10 +60,6 @@ onSideAt net side s i = listed (setFor side (at s i)) (setsOn net side (at s i .
 unfoldable pub firstMissing : Net → List Binding → ℕ
 firstMissing net s = firstFailing (length s) (λ i. onSideAt net Input s i && onSideAt net Output s i)
 
--- the rest of a chain if every activity of the net is on a walk, else refusal 6 with the lowest that isn't
-unfoldable pub onWalks : Net → Says → Says
-onWalks net rest = cond (eqb (lost net) 0) rest (refused on-no-walk (lowest (lost net)))
-
 -- refusals 10 and 11
 unfoldable pub runSays : List Binding → Says
 runSays s = noneAt (firstImpossible s) not-possible (unless (allZero (ψ s)) left-over (accepted 0))
@@ -49,7 +68,7 @@ runSays s = noneAt (firstImpossible s) not-possible (unless (allZero (ψ s)) lef
 unfoldable pub judgePositions : Net → List Binding → Says
 judgePositions net s =
     onWalks net
-    (unless (shaped (net .start) (net .end) (length s) (λ i. at s i .activity)) wrong-ends
+    (unless (shaped (net .start) (net .end) (length s) (activityOf s)) wrong-ends
     (noneAt (firstMissing net s) missing-set
     (runSays s)))
 
@@ -65,14 +84,6 @@ pub record PeakOf (s : List Binding) (r : JudgeAnswer) : Type 0 where
 pub record JudgeDone (net : Net) (ws : List ℕ) (r : JudgeAnswer) : Type 0 where
   pub says : judgeMeans r ≡ judgeSays net ws
   pub peak-of : PeakOf (bindings ws) r
-
-pub record PositionsJudged (net : Net) (s : List Binding) (r : JudgeAnswer) : Type 0 where
-  pub says : judgeMeans r ≡ judgePositions net s
-  pub peak-of : PeakOf s r
-
-pub record RunJudged (s : List Binding) (r : JudgeAnswer) : Type 0 where
-  pub says : judgeMeans r ≡ runSays s
-  pub peak-of : PeakOf s r
 
 -- the earlier of two positions, where 0 is none
 unfoldable pub earlier : ℕ → ℕ → ℕ

@@ -2,7 +2,8 @@
 use Prim.Native.Nat.{ℕ, _+_, _-_}
 use mathlib.Core.Path.{_≡_}
 use mathlib.Core.Bool.{Bool, cond, _&&_, Bool·beq}
-use mathlib.Core.List.{List}
+use mathlib.Core.List.{List, [], _∷_}
+use mathlib.Core.Logic.{_↔_}
 use lib.Dec.{eqb}
 use lib.ListN.{length}
 use Rattle.obligations.specs.Tests.{firstFailing}
@@ -10,20 +11,44 @@ use Rattle.obligations.specs.Trace.{shaped}
 use Rattle.obligations.specs.State.{allZero}
 use Rattle.obligations.specs.Sequence.{Binding, bindings, at, ψ, firstImpossible}
 use Rattle.net.specs.Refusals.{Says, accepted, refused, disorderly, wrong-ends, wrongly-empty, not-possible, left-over, full-side}
+use Rattle.net.specs.Sentences.{Sentence, first}
+use Rattle.net.specs.Chains.{unless, noneAt}
 use Rattle.net.specs.Sides.{netSize}
 use Rattle.net.specs.Orderly.{orderly}
+use Rattle.net.specs.Common.{notOrderly, notActivities, notShaped}
 use Rattle.net.specs.declared.Net.{Net}
-use Rattle.net.specs.Chains.{unless, noneAt}
-use Rattle.sequences.specs.Limits.{withinLimits}
-use Rattle.sequences.specs.Gain.{gained, fits}
+use Rattle.sequences.specs.Limits.{activityOf, notSequence, withinLimits}
+use Rattle.sequences.specs.Run.{notPossible, leftOver}
+use Rattle.sequences.specs.Gain.{notFitting, gained, fits}
 use Rattle.sequences.specs.declared.LearnAnswer.{LearnAnswer}
 use Rattle.sequences.specs.declared.LearnAnswer.the-variants.{Learned, Refused}
 use Rattle.sequences.specs.declared.LearnResult.{LearnResult}
 
--- what each answer of learn and follow says: an accepted one's value is the number of new sets
+-- what each answer of learn and follow means: an accepted one's value is the number of new sets
 abbrev pub learnMeans : LearnAnswer → Says
 learnMeans (Learned new) = accepted new
 learnMeans (Refused n p) = refused n p
+
+-- ---- the refusals
+
+-- 9: X or Y is empty or filled where it may not be; i is the number of positions before the one spoken of
+abbrev pub WronglyEmpty : List Binding → ℕ → Type 0
+WronglyEmpty s i = ((at s i .input ≡ 0) ↔ (i ≡ 0)) × ((at s i .output ≡ 0) ↔ (i + 1 ≡ length s)) → ⊥
+
+abbrev pub learnRefusals : Net → List ℕ → List Sentence
+learnRefusals net ws =
+    let s = bindings ws in
+    notOrderly net
+    ∷ notSequence ws
+    ∷ notActivities (length s) (activityOf s)
+    ∷ notShaped net (length s) (activityOf s)
+    ∷ first wrongly-empty (length s) (WronglyEmpty s)
+    ∷ notPossible s
+    ∷ leftOver s
+    ∷ notFitting net s
+    ∷ []
+
+-- ---- what is said
 
 -- X is empty at the first position only and Y at the last only: the first position where that fails, or 0
 unfoldable pub emptyAgree : List Binding → ℕ → Bool
@@ -36,20 +61,10 @@ firstWronglyEmpty s = firstFailing (length s) (emptyAgree s)
 abbrev pub newSets : Net → List Binding → ℕ
 newSets net s = netSize (gained net s) - netSize net
 
--- refusal 12 alone, for a sequence that no other refusal holds of
-pub record GainDone (net : Net) (s : List Binding) (r : LearnResult) : Type 0 where
-  pub says : learnMeans (r .answer) ≡ unless (fits net s) full-side (accepted (newSets net s))
-  pub gives : r .net ≡ cond (fits net s) (gained net s) net
-
--- a refused call: the refusal's number and place, and the net as it was given
-pub record RefusedWith (net : Net) (number place : ℕ) (r : LearnResult) : Type 0 where
-  pub says : learnMeans (r .answer) ≡ refused number place
-  pub gives : r .net ≡ net
-
 -- refusals 7, 9, 10, 11 and 12, of a sequence within the limits
 unfoldable pub learnPositions : Net → List Binding → Says
 learnPositions net s =
-    unless (shaped (net .start) (net .end) (length s) (λ i. at s i .activity)) wrong-ends
+    unless (shaped (net .start) (net .end) (length s) (activityOf s)) wrong-ends
     (noneAt (firstWronglyEmpty s) wrongly-empty
     (noneAt (firstImpossible s) not-possible
     (unless (allZero (ψ s)) left-over
@@ -63,10 +78,6 @@ learnSays net ws = unless (orderly net) disorderly (withinLimits ws (learnPositi
 -- the net that learn returns: with the sequence's sets if it was accepted, else the very net given
 unfoldable pub learnGives : Net → List ℕ → Net
 learnGives net ws = cond (learnSays net ws .ok) (gained net (bindings ws)) net
-
-pub record PositionsDone (net : Net) (s : List Binding) (r : LearnResult) : Type 0 where
-  pub says : learnMeans (r .answer) ≡ learnPositions net s
-  pub gives : r .net ≡ cond (learnPositions net s .ok) (gained net s) net
 
 pub record LearnDone (net : Net) (ws : List ℕ) (r : LearnResult) : Type 0 where
   pub says : learnMeans (r .answer) ≡ learnSays net ws

@@ -1,27 +1,36 @@
--- What is proved of the definitions: which sequences are learned and judged valid, what the net then holds, and that
--- following is learning.
--- The proofs are in proofs/Theorems.antt.
+-- What is proved of the definitions: each call is refused as listed, which sequences are learned and judged valid, what the net
+-- then holds, and that following is learning. The proofs are in proofs/Theorems.antt.
 use Prim.Native.Nat.{ℕ, _*_, _≤_, _<_}
 use mathlib.Core.Path.{_≡_}
-use mathlib.Core.Bool.{true}
 use mathlib.Core.List.{List}
 use mathlib.Core.Logic.{_↔_}
 use lib.ListN.{length, getD}
 use Rattle.obligations.specs.Limits.{masks, positions}
 use Rattle.obligations.specs.Sequence.{bindings, words, WellFormed}
-use Rattle.net.specs.Sides.{Masks}
+use Rattle.net.specs.Sentences.{NoneHolds, AsListed}
 use Rattle.net.specs.Orderly.{Orderly}
 use Rattle.net.specs.Valid.{Valid}
 use Rattle.net.specs.declared.Net.{Net}
 use Rattle.walks.specs.Walk.{Passes}
 use Rattle.sequences.specs.Gain.{Fits, Gains}
-use Rattle.sequences.specs.Learn.{learnSays, learnGives}
-use Rattle.sequences.specs.Judge.{judgeSays}
-use Rattle.sequences.specs.Follow.{followed, followSays, followGives}
+use Rattle.sequences.specs.Learn.{learnMeans, learnRefusals, learnSays, learnGives}
+use Rattle.sequences.specs.Judge.{judgeMeans, judgeRefusals, judgeSays}
+use Rattle.sequences.specs.Follow.{followed, followRefusals, followSays, followGives}
+use Rattle.sequences.specs.declared.LearnAnswer.the-variants.{Learned, Refused}
+use Rattle.sequences.specs.declared.JudgeAnswer.the-variants as judge
 
--- each word is of 32 bits, as every word in a program is
-abbrev pub Words : List ℕ → Type 0
-Words ws = (i : ℕ) → getD ws i 0 < masks
+-- ---- the refusals: each call is refused exactly as its sentences are listed, and else accepted
+
+abbrev pub LearnListed : Type 0
+LearnListed = (net : Net) (ws : List ℕ) → AsListed (λ n p. learnMeans (Refused n p)) (learnRefusals net ws) (learnSays net ws)
+
+abbrev pub FollowListed : Type 0
+FollowListed = (net : Net) (trace : List ℕ) → AsListed (λ n p. learnMeans (Refused n p)) (followRefusals net trace) (followSays net trace)
+
+abbrev pub JudgeListed : Type 0
+JudgeListed = (net : Net) (ws : List ℕ) → AsListed (λ n p. judgeMeans (judge.Refused n p)) (judgeRefusals net ws) (judgeSays net ws)
+
+-- ---- learn
 
 -- what learn accepts: an orderly net, and words that are a sequence within the limits, well-formed for the net's start and
 -- end, whose sets fit
@@ -33,16 +42,26 @@ pub record Learnable (net : Net) (ws : List ℕ) : Type 0 where
   pub well-formed : WellFormed (net .start) (net .end) (bindings ws)
   pub fitting : Fits net (bindings ws)
 
+-- "well-formed and fits, which together mean that no refusal in these papers holds of the call"
+abbrev pub NoneHoldsLearnable : Type 0
+NoneHoldsLearnable = (net : Net) (ws : List ℕ) → NoneHolds (learnRefusals net ws) ↔ Learnable net ws
+
 abbrev pub LearnAccepts : Type 0
-LearnAccepts = (net : Net) (ws : List ℕ) → Words ws → (learnSays net ws .ok ≡ true) ↔ Learnable net ws
+LearnAccepts = (net : Net) (ws : List ℕ) → ((new : ℕ) × (learnSays net ws ≡ learnMeans (Learned new))) ↔ Learnable net ws
 
 -- an accepted learn returns the net with exactly the sequence's sets more
 abbrev pub LearnHolds : Type 0
-LearnHolds = (net : Net) (ws : List ℕ) → learnSays net ws .ok ≡ true → Gains net (bindings ws) (learnGives net ws)
+LearnHolds = (net : Net) (ws : List ℕ) (new : ℕ) → learnSays net ws ≡ learnMeans (Learned new) → Gains net (bindings ws) (learnGives net ws)
 
 -- an accepted sequence is valid in the net that learn returns
 abbrev pub LearnValid : Type 0
-LearnValid = (net : Net) (ws : List ℕ) → Words ws → learnSays net ws .ok ≡ true → Valid (learnGives net ws) (bindings ws)
+LearnValid = (net : Net) (ws : List ℕ) (new : ℕ) → learnSays net ws ≡ learnMeans (Learned new) → Valid (learnGives net ws) (bindings ws)
+
+-- a refused learn or follow returns the very net given
+abbrev pub RefusedSame : Type 0
+RefusedSame =
+    (net : Net) (ws : List ℕ) (n p : ℕ)
+    → (learnSays net ws ≡ learnMeans (Refused n p) → learnGives net ws ≡ net) × (followSays net ws ≡ learnMeans (Refused n p) → followGives net ws ≡ net)
 
 -- following a trace is learning its sequence, whatever the net and the trace are
 pub record FollowIsLearn (net : Net) (trace : List ℕ) : Type 0 where
@@ -52,6 +71,8 @@ pub record FollowIsLearn (net : Net) (trace : List ℕ) : Type 0 where
 abbrev pub FollowLearns : Type 0
 FollowLearns = (net : Net) (trace : List ℕ) → FollowIsLearn net trace
 
+-- ---- judge
+
 -- what judge accepts: a net that passes, and words that are a sequence within the limits and valid in it
 pub record Judgeable (net : Net) (ws : List ℕ) : Type 0 where
   pub passes : Passes net
@@ -60,5 +81,13 @@ pub record Judgeable (net : Net) (ws : List ℕ) : Type 0 where
   pub few : count ≤ positions
   pub valid : Valid net (bindings ws)
 
+abbrev pub NoneHoldsJudgeable : Type 0
+NoneHoldsJudgeable = (net : Net) (ws : List ℕ) → NoneHolds (judgeRefusals net ws) ↔ Judgeable net ws
+
+-- the peak isn't part of what is said, so any case of it will do
 abbrev pub JudgeAccepts : Type 0
-JudgeAccepts = (net : Net) (ws : List ℕ) → Masks net → Words ws → (judgeSays net ws .ok ≡ true) ↔ Judgeable net ws
+JudgeAccepts = (net : Net) (ws : List ℕ) (peak : ℕ) → (judgeSays net ws ≡ judgeMeans (judge.Judged peak)) ↔ Judgeable net ws
+
+-- each word is of 32 bits, as every word in a program is
+abbrev pub Words : List ℕ → Type 0
+Words ws = (i : ℕ) → getD ws i 0 < masks

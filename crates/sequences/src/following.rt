@@ -17,8 +17,8 @@ ghost use lib.ListN.{length};
 ghost use lib.Seq.{sets};
 ghost use Rattle.obligations.specs.Sequence.{words};
 ghost use Rattle.net.specs.Orderly.{orderly};
-ghost use Rattle.sequences.specs.Run.{TracePositions};
-ghost use Rattle.sequences.specs.Follow.{followed, nextSet, TraceDone, FollowDone};
+ghost use Rattle.sequences.specs.Follow.{followed, FollowDone};
+ghost use Rattle.sequences.specs.Inner.{TracePositions, nextSet, TraceDone};
 
 // Learns the sequence whose X is the activity before, empty at the first, and whose Y is the activity after, empty at the
 // last. A refused call returns the net given.

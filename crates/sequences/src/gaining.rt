@@ -14,9 +14,7 @@ ghost use Rattle.obligations.specs.Limits.{activities};
 ghost use Rattle.obligations.specs.Sequence.{bindings};
 ghost use Rattle.net.specs.Limits.{sets, places};
 ghost use Rattle.net.specs.Orderly.{orderly};
-ghost use Rattle.sequences.specs.Run.{Positions};
-ghost use Rattle.sequences.specs.Gain.{SetGained};
-ghost use Rattle.sequences.specs.Learn.{GainDone, RefusedWith};
+ghost use Rattle.sequences.specs.Inner.{Positions, SetGained, GainDone, RefusedWith};
 
 // Added: how many sets a put added. NoRoom: the side can't take the set.
 enum Gained {

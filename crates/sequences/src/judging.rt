@@ -20,8 +20,8 @@ ghost use Rattle.obligations.specs.Sequence.{bindings};
 ghost use Rattle.net.specs.Lists.{listed};
 ghost use Rattle.net.specs.Sides.{Sides, sideIn};
 ghost use Rattle.net.specs.Orderly.{orderly};
-ghost use Rattle.sequences.specs.Run.{Positions};
-ghost use Rattle.sequences.specs.Judge.{firstMissing, earlier, RunJudged, PositionsJudged, JudgeDone};
+ghost use Rattle.sequences.specs.Judge.{firstMissing, earlier, JudgeDone};
+ghost use Rattle.sequences.specs.Inner.{Positions, RunJudged, PositionsJudged};
 
 // Accepts a sequence exactly if the net passes and the sequence is valid in it.
 pub fn judge(net: Net, sequence: &[u32]) -> JudgeAnswer

@@ -15,8 +15,8 @@ ghost use mathlib.Core.Path.{_≡_};
 ghost use mathlib.Core.Bool.{true};
 ghost use Rattle.obligations.specs.Sequence.{bindings};
 ghost use Rattle.net.specs.Orderly.{orderly};
-ghost use Rattle.sequences.specs.Run.{Positions};
-ghost use Rattle.sequences.specs.Learn.{firstWronglyEmpty, PositionsDone, LearnDone};
+ghost use Rattle.sequences.specs.Learn.{firstWronglyEmpty, LearnDone};
+ghost use Rattle.sequences.specs.Inner.{Positions, PositionsDone};
 
 // Learns a sequence, from whoever proposes it: the net gains exactly its X and Y sets, and the answer is the number that
 // were new. A refused call returns the net given.

@@ -4,7 +4,7 @@ use crate::Limited;
 use net::refusal;
 use obligations::POSITIONS;
 use obligations::trace::first_no_activity;
-ghost use Rattle.sequences.specs.Limits.{LimitsOf, TraceLimitsOf};
+ghost use Rattle.sequences.specs.Inner.{LimitsOf, TraceLimitsOf};
 
 // How many positions the words of a sequence have: a multiple of three words, at most 64 positions, activities below 32.
 pub fn sequence_limits(words: &[u32]) -> Limited

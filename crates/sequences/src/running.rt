@@ -6,7 +6,8 @@ use obligations::state::step;
 ghost use mathlib.Core.Path.{_≡_};
 ghost use Prim.Native.Nat.{max};
 ghost use Rattle.obligations.specs.Sequence.{bindings};
-ghost use Rattle.sequences.specs.Run.{ran, Positions};
+ghost use Rattle.sequences.specs.Run.{ran};
+ghost use Rattle.sequences.specs.Inner.{Positions};
 
 // Takes the n bindings one after another, up to the first that isn't possible. The total of counts is carried along, so
 // that at the end the state needs no scan.

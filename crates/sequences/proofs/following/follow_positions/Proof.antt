@@ -8,8 +8,7 @@ use lib.ListN.{length, take, replicate}
 use lib.Seq.{length-sets}
 use Rattle.obligations.specs.Sequence.{Binding, bindings, words}
 use Rattle.obligations.proofs.SequenceLaws.{bindings-words}
-use Rattle.sequences.specs.Run.{Positions}
-use Rattle.sequences.specs.Learn.{GainDone}
+use Rattle.sequences.specs.Inner.{Positions, GainDone}
 use Rattle.sequences.specs.Follow.{followed}
 use Rattle.sequences.proofs.FollowLaws.{length-followed, front-words, followed-positions, shaped-trace, refused-trace-ends, followed-or-full}
 use borrow.Author.Needs.{needs}

@@ -2,7 +2,7 @@
 use Prim.Native.Nat.{_+_}
 use borrow.Author.Tests.{lt-ltb, le-ltb}
 use lib.ListN.{length}
-use Rattle.sequences.specs.Follow.{nextSet}
+use Rattle.sequences.specs.Inner.{nextSet}
 use borrow.Author.Needs.{needs}
 use Rattle.sequences.proofs.following.next_set.Statement.{statement}
 use Rattle.sequences.proofs.following.next_set.Tie as tie

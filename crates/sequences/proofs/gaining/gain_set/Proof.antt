@@ -1,7 +1,7 @@
 -- `gain_set` meets its contract, case by case of what `put_side` answers. Assumes nothing.
 use mathlib.Core.Path.{sym, ap, _∙_}
 use Rattle.net.specs.Put.{putMeans}
-use Rattle.sequences.specs.Gain.{gainedBy}
+use Rattle.sequences.specs.Inner.{gainedBy}
 use borrow.Author.Needs.{needs}
 use Rattle.sequences.proofs.gaining.gain_set.Statement.{statement}
 use Rattle.sequences.proofs.gaining.gain_set.Tie as tie

@@ -5,10 +5,10 @@ use native.Mathlib.Omega.{arith}
 use borrow.Author.Tests.{not-true, not-false}
 use lib.Count.{trailingZeros}
 use Rattle.obligations.specs.Sequence.{bindings}
-use Rattle.walks.specs.Check.{lost, lowest}
+use Rattle.walks.specs.Check.{lost, lowestMember}
 use Rattle.walks.proofs.LinkLaws.{lost-lt}
 use Rattle.walks.proofs.CheckLaws.{lowest-is}
-use Rattle.sequences.specs.Judge.{PositionsJudged}
+use Rattle.sequences.specs.Inner.{PositionsJudged}
 use Rattle.sequences.specs.declared.JudgeAnswer.the-variants.{Refused}
 use Rattle.sequences.proofs.WordLaws.{shaped-same}
 use Rattle.sequences.proofs.JudgeLaws.{refused-lost, judged-ends, judged-missing, judged-run}
@@ -26,7 +26,7 @@ returns c =
     let ws = g .args .words .now in
     let e = c .before .survey-net .ensures .lost-are in
     let p : 0 < lost net = omega (arith, e, c .if1 .taken) in
-    let q : lowest (lost net) ≡ trailingZeros 32 (c .before .survey-net .result .lost) = lowest-is (lost net) p (lost-lt net) ∙ ap (trailingZeros 32) (sym e) in
+    let q : lowestMember (lost net) ≡ trailingZeros 32 (c .before .survey-net .result .lost) = lowest-is (lost net) p (lost-lt net) ∙ ap (trailingZeros 32) (sym e) in
     subst (λ (k : ℕ). PositionsJudged net (bindings ws) (Refused 6 k)) q (refused-lost net (bindings ws) (λ z. omega arith))
 
 is-shaped-requires : tie.Need-is-shaped-requires
