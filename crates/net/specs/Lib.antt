@@ -1,5 +1,5 @@
 -- The definitions that the contracts of `net` cite, and the statements proved of them. A reader of 01 needs all but the last
--- file; Statements has what is proved.
+-- file; Statements has what is proved, and Examples the net of the marked examples.
 pub mod Limits
 pub mod Refusals
 pub mod Sentences
@@ -14,5 +14,6 @@ pub mod Put
 pub mod Contained
 pub mod Valid
 pub mod Statements
+pub mod Examples
 -- of the code alone
 pub mod Inner

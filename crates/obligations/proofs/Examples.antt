@@ -1,30 +1,17 @@
 -- The definitions computed on sequences of the papers. Assumes nothing.
 use mathlib.Core.Path.{_≡_, refl}
 use mathlib.Core.Bool.{true, false}
-use mathlib.Core.List.{List, [], _∷_}
+use mathlib.Core.List.{[], _∷_}
 use lib.ListN.{take}
 use Rattle.obligations.specs.Tests.{firstFrom, firstFailing}
 use Rattle.obligations.specs.Sets.{member, bit, members, size, subset, minus}
 use Rattle.obligations.specs.State.{count, nothing, places, inputs, outputs, allDue, lowered, raised, possible, taken, added, after, allZero, total}
-use Rattle.obligations.specs.Sequence.{Binding, bindings, run, ψ, possibleAt, firstImpossible, completes}
+use Rattle.obligations.specs.Examples.{fig4}
+use Rattle.obligations.specs.Sequence.{bindings, run, ψ, possibleAt, firstImpossible, completes}
 
--- 003's Fig. 4 sequence, with its activities a to e as 0 to 4
-fig4 : List Binding
-unfolding bindings
-fig4 =
-    bindings
-    (0 ∷ 0 ∷ 2
-    ∷ 1 ∷ 1 ∷ 6
-    ∷ 1 ∷ 2 ∷ 12
-    ∷ 2 ∷ 2 ∷ 8
-    ∷ 2 ∷ 2 ∷ 8
-    ∷ 3 ∷ 6 ∷ 8
-    ∷ 3 ∷ 12 ∷ 16
-    ∷ 4 ∷ 8 ∷ 0 ∷ [])
-
--- after its third position c is due twice because of b, so that a flag a pair doesn't do
-due-twice : (count (ψ (take 3 fig4)) 1 2 ≡ 2) × (completes nothing fig4 ≡ true) × (firstImpossible fig4 ≡ 0)
-unfolding fig4 run count completes firstImpossible firstFailing firstFrom possibleAt possible after taken added inputs outputs places members allDue lowered raised allZero
+-- after the third position of Fig. 4 c is due twice because of b, so that a flag a pair doesn't do
+due-twice : let s = bindings fig4 in (count (ψ (take 3 s)) 1 2 ≡ 2) × (completes nothing s ≡ true) × (firstImpossible s ≡ 0)
+unfolding fig4 bindings run count completes firstImpossible firstFailing firstFrom possibleAt possible after taken added inputs outputs places members allDue lowered raised allZero
 due-twice = (refl, refl, refl)
 
 -- (1, 3, 10) names 1 in X and in Y, and what its Y adds can't serve its X: not possible at position 2

@@ -1,30 +1,27 @@
--- The check computed on small nets, each made by puts from a fresh net. Assumes nothing.
+-- The check computed on small nets: net F, and others made by puts. Assumes nothing.
 use Prim.Native.Nat.{ℕ}
 use mathlib.Core.Path.{_≡_, refl}
 use mathlib.Core.List.{List, [], _∷_, map}
 use Rattle.obligations.specs.Tests.{number}
 use Rattle.obligations.specs.Sets.{bit, member, single, union, keep, membersFrom, members}
 use Rattle.net.specs.Lists.{allBelow, listed, ascendsAbove, zeros, insert}
-use Rattle.net.specs.Refusals.{accepted, refused}
 use Rattle.net.specs.Orderly.{endsOk, blockOk, sidesOk, sized, orderly}
 use Rattle.net.specs.Fresh.{freshNet}
 use Rattle.net.specs.Put.{misplaced, sideSays, putSays, grows, putGives}
+use Rattle.net.specs.Examples.{F}
 use Rattle.net.specs.declared.Net.{Net}
 use Rattle.net.specs.declared.Side.{Side}
 use Rattle.net.specs.declared.Side.the-variants.{Input, Output}
 use Rattle.walks.specs.Below.{anyBelow, sumBelow, withIf, thoseBelow, those}
 use Rattle.walks.specs.Arcs.{named, names, arc, arcs}
 use Rattle.walks.specs.Rows.{rowsFrom, rows, unionFrom, grown, rounds, reach}
-use Rattle.walks.specs.Check.{onSides, inNet, successors, predecessors, outside, lost, lowestMember, onWalks, checkSays}
+use Rattle.walks.specs.Check.{onSides, inNet, successors, predecessors, outside, lost, lowestMember, onWalks, checkSays, checkMeans}
+use Rattle.walks.specs.declared.CheckAnswer.the-variants.{Passed, Refused}
 
 -- a net with sets put on one side
 puts : Net → Side → ℕ → List ℕ → Net
 puts net side a [] = net
 puts net side a (m ∷ ms) = puts (putGives net side a m) side a ms
-
--- net F of the paper
-F : Net
-F = puts (puts (puts (puts (puts (puts (freshNet 0 3) Output 0 (2 ∷ 4 ∷ 6 ∷ [])) Input 3 (2 ∷ 4 ∷ 6 ∷ [])) Input 1 (1 ∷ [])) Input 2 (1 ∷ [])) Output 1 (8 ∷ [])) Output 2 (8 ∷ [])
 
 -- F, with 5 named on a side and on no walk
 named-only : Net
@@ -38,6 +35,8 @@ twice = puts (puts (puts (puts (puts (puts (freshNet 0 3) Output 0 (2 ∷ [])) I
 loop : Net
 loop = puts (puts (puts (puts (freshNet 0 2) Output 0 (2 ∷ [])) Input 1 (1 ∷ 2 ∷ [])) Output 1 (2 ∷ 4 ∷ [])) Input 2 (2 ∷ [])
 
-says : map checkSays (F ∷ named-only ∷ twice ∷ loop ∷ freshNet 7 3 ∷ freshNet 3 3 ∷ []) ≡ accepted 4 ∷ refused 6 5 ∷ accepted 4 ∷ accepted 3 ∷ refused 6 3 ∷ refused 2 0 ∷ []
+says :
+    map checkSays (F ∷ named-only ∷ twice ∷ loop ∷ freshNet 7 3 ∷ freshNet 3 3 ∷ [])
+    ≡ map checkMeans (Passed 4 ∷ Refused 6 5 ∷ Passed 4 ∷ Passed 3 ∷ Refused 6 3 ∷ Refused 2 0 ∷ [])
 unfolding F named-only twice loop puts freshNet putGives grows putSays sideSays misplaced insert listed checkSays onWalks lowestMember lost outside successors predecessors inNet onSides reach rounds grown unionFrom rows rowsFrom arcs arc names named those thoseBelow withIf sumBelow number anyBelow orderly sized endsOk sidesOk blockOk allBelow ascendsAbove zeros members membersFrom keep union single member bit
 says = refl

@@ -1,0 +1,15 @@
+-- The papers' example of a net, for the examples of every crate.
+use lib.ListN.{set, replicate}
+use Rattle.net.specs.declared.Net.{Net}
+
+-- net F (01, "Marked examples on net F, and slips"; 000, Fig. 1(d)): start 0, end 3; outputs of 0 and inputs of 3: 2, 4, 6; inputs of
+-- 1 and 2: 1; outputs of 1 and 2: 8
+unfoldable pub F : Net
+F = record {
+  start = 0;
+  end = 3;
+  inputs = set (set (set (set (set (replicate 512 0) 16 1) 32 1) 48 2) 49 4) 50 6;
+  outputs = set (set (set (set (set (replicate 512 0) 0 2) 1 4) 2 6) 16 8) 32 8;
+  «input_len» = set (set (set (set (replicate 32 0) 0 1) 1 1) 2 1) 3 3;
+  «output_len» = set (set (set (set (replicate 32 0) 0 3) 1 1) 2 1) 3 1;
+}
