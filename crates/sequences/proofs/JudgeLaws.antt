@@ -1,4 +1,4 @@
--- Refusal 8, position by position and side by side, the peak's bounds, and the chain of judge's refusals. Assumes nothing.
+-- The search of one side's sets for refusal 8, the peak's bounds, and the chain of judge's refusals. Assumes nothing.
 use Prim.Native.Nat.{ℕ, suc, _+_, _-_, _*_, _≤_, _<_, min}
 use mathlib.Core.Path.{_≡_, refl, sym, ap, ap₂, _∙_}
 use mathlib.Core.Bool.{Bool, true, false, _&&_, and-false}
@@ -27,7 +27,7 @@ use Rattle.net.specs.declared.Net.{Net}
 use Rattle.net.specs.declared.Side.the-variants.{Input, Output}
 use Rattle.walks.specs.Check.{lost, lowestMember, onWalks}
 use Rattle.sequences.specs.Run.{largestTotal, outputSizes, ran}
-use Rattle.sequences.specs.Judge.{onSideAt, firstMissing, runSays, judgePositions, judgeSays, PeakOf, JudgeDone, earlier}
+use Rattle.sequences.specs.Judge.{onSideAt, firstMissing, runSays, judgePositions, judgeSays, PeakOf, JudgeDone}
 use Rattle.sequences.specs.Inner.{limitsMeans, LimitsOf, Positions, RunJudged, PositionsJudged}
 use Rattle.sequences.specs.declared.JudgeAnswer.{JudgeAnswer}
 use Rattle.sequences.specs.declared.JudgeAnswer.the-variants.{Judged, Refused}
@@ -70,70 +70,6 @@ module _ (masks lengths : List ℕ) (a set j : ℕ) (s : Sides masks lengths) (h
 
   pub searching-end : 16 * a + getD lengths a 0 ≤ j → listed set (sideIn masks lengths a) ≡ false
   searching-end u = r .rest ∙ listed-end set (j - 16 * a) (sideIn masks lengths a) (omega (arith, size, r .low))
-
--- ---- the earlier of two positions
-
-pub earlier-second : (q : ℕ) → earlier 0 q ≡ q
-unfolding earlier
-earlier-second q = refl
-
-pub earlier-first : (p : ℕ) → 0 < p → earlier p 0 ≡ p
-unfolding earlier
-earlier-first p h = rw (ne-eqb p 0 (λ e. omega arith))
-
-pub earlier-lower : (p q : ℕ) → 0 < p → 0 < q → earlier p q ≡ min p q
-unfolding earlier
-earlier-lower p q h k = rw (ne-eqb p 0 (λ e. omega arith), ne-eqb q 0 (λ e. omega arith))
-
-module _ (n : ℕ) (t u : ℕ → Bool) where
-  both-fails : (i : ℕ) → i < n → AllPass i t → AllPass i u → (t i ≡ false) ⊎ (u i ≡ false) → firstFailing n (λ j. t j && u j) ≡ suc i
-  both-fails i h p q f =
-      fails-first n (λ j. t j && u j) i
-      (record { inside = h; before = λ j l. and-both (p j l) (q j l); fails = ⊎-elim (λ e. rw e) (λ e. ap (λ (b : Bool). t i && b) e ∙ and-false (t i)) f })
-
-  -- two tests at once fail first where one of them does
-  pub first-both : firstFailing n (λ i. t i && u i) ≡ earlier (firstFailing n t) (firstFailing n u)
-  first-both = go (pass-or-fails n t) (pass-or-fails n u)
-    where
-      two : (i j : ℕ) → FailsFirst n t i → FailsFirst n u j → firstFailing n (λ k. t k && u k) ≡ min (suc i) (suc j)
-      two i j f g =
-          ⊎-elim (λ l. both-fails i (f .inside) (f .before) (λ k m. g .before k (omega arith)) (inl (f .fails)) ∙ omega arith)
-          (λ l. both-fails j (g .inside) (λ k m. f .before k (omega arith)) (g .before) (inr (g .fails)) ∙ omega arith) (lt-or-le i j)
-
-      go : AllPass n t ⊎ ((i : ℕ) × FailsFirst n t i) → AllPass n u ⊎ ((i : ℕ) × FailsFirst n u i) → firstFailing n (λ i. t i && u i) ≡ earlier (firstFailing n t) (firstFailing n u)
-      go (inl p) (inl q) = rw (pass-first n t p, earlier-second (firstFailing n u), pass-first n u q) (pass-first n (λ i. t i && u i) (λ i l. and-both (p i l) (q i l)))
-      go (inl p) (inr f) =
-          rw (pass-first n t p, earlier-second (firstFailing n u), fails-first n u (f .0) (f .1))
-          (both-fails (f .0) (f .1 .inside) (λ j l. p j (omega (arith, f .1 .inside))) (f .1 .before) (inr (f .1 .fails)))
-      go (inr f) (inl q) =
-          rw (pass-first n u q, fails-first n t (f .0) (f .1), earlier-first (suc (f .0)) (omega arith))
-          (both-fails (f .0) (f .1 .inside) (f .1 .before) (λ j l. q j (omega (arith, f .1 .inside))) (inl (f .1 .fails)))
-      go (inr f) (inr g) =
-          rw (fails-first n t (f .0) (f .1), fails-first n u (g .0) (g .1), earlier-lower (suc (f .0)) (suc (g .0)) (omega arith) (omega arith)) (two (f .0) (g .0) (f .1) (g .1))
-
--- ---- refusal 8, from the words
-
-module _ (net : Net) (ws : List ℕ) (n : ℕ) (p : Positions ws n) where
-  input-tests : firstFailing n (λ i. listed (getD ws (3 * i + 1) 0) (sideIn (net .inputs) (net .«input_len») (getD ws (3 * i) 0))) ≡ firstFailing n (onSideAt net Input (bindings ws))
-  unfolding onSideAt
-  input-tests =
-      first-ext n (λ i. listed (getD ws (3 * i + 1) 0) (sideIn (net .inputs) (net .«input_len») (getD ws (3 * i) 0))) (onSideAt net Input (bindings ws))
-      (λ i l. let h = held-at ws i (omega (arith, positions-many ws n p)) in ap₂ (λ (m a : ℕ). listed m (sideIn (net .inputs) (net .«input_len») a)) (sym (h .input-held)) (sym (h .activity-held)))
-
-  output-tests : firstFailing n (λ i. listed (getD ws (3 * i + 2) 0) (sideIn (net .outputs) (net .«output_len») (getD ws (3 * i) 0))) ≡ firstFailing n (onSideAt net Output (bindings ws))
-  unfolding onSideAt
-  output-tests =
-      first-ext n (λ i. listed (getD ws (3 * i + 2) 0) (sideIn (net .outputs) (net .«output_len») (getD ws (3 * i) 0))) (onSideAt net Output (bindings ws))
-      (λ i l. let h = held-at ws i (omega (arith, positions-many ws n p)) in ap₂ (λ (m a : ℕ). listed m (sideIn (net .outputs) (net .«output_len») a)) (sym (h .output-held)) (sym (h .activity-held)))
-
-  pub missing-words : (x y : ℕ)
-      → x ≡ firstFailing n (λ i. listed (getD ws (3 * i + 1) 0) (sideIn (net .inputs) (net .«input_len») (getD ws (3 * i) 0)))
-      → y ≡ firstFailing n (λ i. listed (getD ws (3 * i + 2) 0) (sideIn (net .outputs) (net .«output_len») (getD ws (3 * i) 0)))
-      → earlier x y ≡ firstMissing net (bindings ws)
-  unfolding firstMissing
-  missing-words x y ex ey =
-      ap₂ earlier (ex ∙ input-tests) (ey ∙ output-tests)
-      ∙ sym (ap (λ (k : ℕ). firstFailing k (λ i. onSideAt net Input (bindings ws) i && onSideAt net Output (bindings ws) i)) (positions-many ws n p) ∙ first-both n (onSideAt net Input (bindings ws)) (onSideAt net Output (bindings ws)))
 
 -- ---- the peak
 

@@ -10,6 +10,7 @@ pub mod FitLaws
 pub mod AcceptLaws
 pub mod FollowLearnLaws
 pub mod JudgeLaws
+pub mod MissingLaws
 pub mod ValidLaws
 pub mod RefusalLaws
 pub mod Theorems

@@ -84,7 +84,3 @@ pub record PeakOf (s : List Binding) (r : JudgeAnswer) : Type 0 where
 pub record JudgeDone (net : Net) (ws : List ℕ) (r : JudgeAnswer) : Type 0 where
   pub says : judgeMeans r ≡ judgeSays net ws
   pub peak-of : PeakOf (bindings ws) r
-
--- the earlier of two positions, where 0 is none
-unfoldable pub earlier : ℕ → ℕ → ℕ
-earlier p q = cond (eqb p 0) q (cond (eqb q 0) p (min p q))

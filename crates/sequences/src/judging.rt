@@ -13,14 +13,11 @@ use obligations::trace::is_shaped;
 use walks::survey_net;
 ghost use mathlib.Core.Path.{_≡_};
 ghost use mathlib.Core.Bool.{true};
-ghost use Prim.Native.Nat.{_+_, _*_, _<_};
-ghost use lib.ListN.{getD};
-ghost use Rattle.obligations.specs.Tests.{firstFailing};
+ghost use Prim.Native.Nat.{ℕ};
 ghost use Rattle.obligations.specs.Sequence.{bindings};
-ghost use Rattle.net.specs.Lists.{listed};
-ghost use Rattle.net.specs.Sides.{Sides, sideIn};
+ghost use Rattle.net.specs.Sides.{Sides, netOf};
 ghost use Rattle.net.specs.Orderly.{orderly};
-ghost use Rattle.sequences.specs.Judge.{firstMissing, earlier, JudgeDone};
+ghost use Rattle.sequences.specs.Judge.{firstMissing, JudgeDone};
 ghost use Rattle.sequences.specs.Inner.{Positions, RunJudged, PositionsJudged};
 
 // Accepts a sequence exactly if the net passes and the sequence is valid in it.
@@ -63,7 +60,14 @@ fn judge_positions(net: Net, words: &[u32], n: usize) -> JudgeAnswer
             place: 0,
         };
     }
-    let missing = first_missing(net, words, n);
+    let missing = first_missing(
+        &net.inputs,
+        &net.input_len,
+        &net.outputs,
+        &net.output_len,
+        words,
+        n,
+    );
     if missing != 0 {
         return JudgeAnswer::Refused {
             number: refusal::MISSING_SET,
@@ -73,58 +77,52 @@ fn judge_positions(net: Net, words: &[u32], n: usize) -> JudgeAnswer
     run_judged(words, n)
 }
 
-// The first position whose X or Y isn't in the net, or 0.
-fn first_missing(net: Net, words: &[u32], n: usize) -> u32
-    requires { ⌜ orderly net ≡ true ⌝ }
-    requires { ⌜ Positions (now words) n ⌝ }
-    ensures { λ r. ⌜ r ≡ firstMissing net (bindings (now (words .entry))) ⌝ }
-{
-    let x = first_off_side(&net.inputs, &net.input_len, words, n, 1);
-    let y = first_off_side(&net.outputs, &net.output_len, words, n, 2);
-    earlier(x, y)
-}
-
-// The earlier of two positions, where 0 is none.
-fn earlier(p: u32, q: u32) -> u32
-    ensures { λ r. ⌜ r ≡ earlier p q ⌝ }
-{
-    if p == 0 {
-        return q;
-    }
-    if q == 0 {
-        return p;
-    }
-    if p < q { p } else { q }
-}
-
-// The first position whose set isn't on its activity's side, or 0: the set is the position's word `which`, 1 for X and 2
-// for Y, in the arrays of the sides of that kind.
-fn first_off_side<'a>(
-    masks: &'a [u32],
-    lengths: &'a [u32],
+// The first position whose X or Y isn't in the net of these arrays, or 0. At each position its activity's input sets are
+// searched for X and then its output sets for Y; a search that doesn't find its set leaves the loop over positions.
+fn first_missing<'a>(
+    inputs: &'a [u32],
+    input_len: &'a [u32],
+    outputs: &'a [u32],
+    output_len: &'a [u32],
     words: &[u32],
     n: usize,
-    which: usize,
 ) -> u32
-    requires { ⌜ Sides (now masks) (now lengths) ⌝ }
+    requires { ⌜ Sides (now inputs) (now «input_len») ⌝ }
+    requires { ⌜ Sides (now outputs) (now «output_len») ⌝ }
     requires { ⌜ Positions (now words) n ⌝ }
-    requires { ⌜ which < 3 ⌝ }
-    ensures { λ r. ⌜ r ≡ firstFailing n (λ i. listed (getD (now (words .entry)) (3 * i + which) 0) (sideIn (now (masks .entry)) (now (lengths .entry)) (getD (now (words .entry)) (3 * i) 0))) ⌝ }
+    ensures { λ r. ⌜ ((start end : ℕ) → r ≡ firstMissing (netOf start end (now (inputs .entry)) (now («input_len» .entry)) (now (outputs .entry)) (now («output_len» .entry))) (bindings (now (words .entry)))) ⌝ }
 {
     let mut i: usize = 0;
+    let mut at: usize = 0;
     'positions: while i < n {
-        let a = words[3 * i];
-        let set = words[3 * i + which];
-        let mut j = (SETS * a) as usize;
-        let end = j + lengths[a as usize] as usize;
-        while j < end {
-            if masks[j] == set {
-                i += 1;
-                continue 'positions;
+        let a = words[at] as usize;
+        let x = words[at + 1];
+        let y = words[at + 2];
+        let from = SETS as usize * a;
+        let inputs_end = from + input_len[a] as usize;
+        let outputs_end = from + output_len[a] as usize;
+        let mut j = from;
+        loop {
+            if j == inputs_end {
+                break 'positions;
+            }
+            if inputs[j] == x {
+                break;
             }
             j += 1;
         }
-        break 'positions;
+        let mut k = from;
+        loop {
+            if k == outputs_end {
+                break 'positions;
+            }
+            if outputs[k] == y {
+                break;
+            }
+            k += 1;
+        }
+        i += 1;
+        at += 3;
     }
     if i < n { (i + 1) as u32 } else { 0 }
 }

@@ -1,34 +1,273 @@
--- `first_missing` meets its contract: the two sides' first positions, and the earlier of them. Assumes nothing.
-use mathlib.Core.Path.{_∙_}
-use lib.Dec.{lit<}
-use Rattle.net.specs.declared.Side.the-variants.{Input, Output}
-use Rattle.net.proofs.OrderlyLaws.{orderly-arrays}
-use Rattle.sequences.proofs.JudgeLaws.{missing-words}
-use borrow.Author.Needs.{needs}
+-- `first_missing` meets its contract. The outer loop's invariant: both sets of each position before i are on their sides; an inner
+-- one's: whether the set is on the side is whether it is among the places left. Assumes nothing.
+use Prim.Native.Nat.{_+_, _-_, _≤_, _<_}
+use mathlib.Core.Logic.{⊎-elim}
+use mathlib.Core.Path.{sym, _∙_}
+use native.Mathlib.Omega.{arith}
+use lib.ListN.{getD}
+use Rattle.obligations.specs.Sequence.{bindings}
+use Rattle.net.specs.Sides.{netOf}
+use Rattle.sequences.proofs.WordLaws.{activity-below}
+use Rattle.sequences.proofs.JudgeLaws.{Searching, searching-start, searching-found, searching-next, searching-end}
+use Rattle.sequences.proofs.MissingLaws.{Passed, ends-free, passed-none, passed-next, all-passed, input-missing, output-missing}
 use Rattle.sequences.proofs.judging.first_missing.Statement.{statement}
 use Rattle.sequences.proofs.judging.first_missing.Tie as tie
+use Rattle.sequences.proofs.judging.first_missing.Reads as reads
+use Rattle.sequences.proofs.judging.first_missing.Lts as lts
 
-first-off-side-requires : tie.Need-first-off-side-requires
-first-off-side-requires c κs =
-    let g = c .before .before .before .before .before .before in
-    let net = g .args .t1 in
-    ((orderly-arrays net (g .pre .0) Input), (g .pre .1, lit< tt))
+abbrev Inv-loop : tie.InvT-loop
+Inv-loop inputs input-len outputs output-len words n i at a x y from inputs-end outputs-end j₀ j = Searching inputs input-len a x j
 
-first-off-side-requires-2 : tie.Need-first-off-side-requires-2
-first-off-side-requires-2 c κs =
-    let g = c .before .before .before .before .before .before .before .before .before .before .before .before in
-    let net = g .args .t1 in
-    ((orderly-arrays net (g .pre .0) Output), (g .pre .1, lit< tt))
+abbrev μ-loop : tie.MeasureT-loop
+μ-loop inputs input-len outputs output-len words n i at a x y from inputs-end outputs-end j₀ j = inputs-end - j
 
-earlier-requires : tie.Need-earlier-requires
-earlier-requires c κs = search needs
+abbrev Inv-loop2 : tie.InvT-loop2
+Inv-loop2 inputs input-len outputs output-len words n i at a x y from inputs-end outputs-end j k₀ k = Searching outputs output-len a y k
 
-returns : tie.Need-returns
-returns c =
-    let g = c .before .before .before .before .before .before .before .before .before .before .before .before .before .before in
-    let net = g .args .t1 in
-    c .earlier .ensures ∙ missing-words net (g .args .words .now) (g .args .n) (g .pre .1) (c .before .before .before .before .before .before .before .first-off-side .result) (c .before .first-off-side2 .result) (c .before .before .before .before .before .before .before .first-off-side .ensures) (c .before .first-off-side2 .ensures)
+abbrev μ-loop2 : tie.MeasureT-loop2
+μ-loop2 inputs input-len outputs output-len words n i at a x y from inputs-end outputs-end j k₀ k = outputs-end - k
+
+abbrev Inv-positions : tie.InvT-positions
+Inv-positions inputs input-len outputs output-len words n i₀ at₀ i at = Passed (netOf 0 0 inputs input-len outputs output-len) words n i at
+
+abbrev μ-positions : tie.MeasureT-positions
+μ-positions inputs input-len outputs output-len words n i₀ at₀ i at = n - i
+
+-- ---- what is known at each position
+
+abbrev Within : Type 0
+Within = lts.In-positions reads.Pre reads.Post Inv-loop μ-loop Inv-loop2 μ-loop2 Inv-positions μ-positions
+
+below : (c : Within) → getD (c .before .before .args .words .now) (c .before .positions .at) 0 < 32
+below c =
+    let g = c .before .before in
+    let p = c .before .positions in
+    activity-below (g .args .words .now) (g .args .n) (g .pre .1 .1) (p .i) (p .at) (c .positions-test .taken) (p .inv .place-is)
+
+inputs-few : (c : Within) → getD (c .before .before .args .input-len .now) (getD (c .before .before .args .words .now) (c .before .positions .at) 0) 0 ≤ 16
+inputs-few c = c .before .before .pre .0 .at-most (getD (c .before .before .args .words .now) (c .before .positions .at) 0) (below c)
+
+outputs-few : (c : Within) → getD (c .before .before .args .output-len .now) (getD (c .before .before .args .words .now) (c .before .positions .at) 0) 0 ≤ 16
+outputs-few c = c .before .before .pre .1 .0 .at-most (getD (c .before .before .args .words .now) (c .before .positions .at) 0) (below c)
+
+-- ---- the needs
+
+positions-holds : tie.Need-positions-holds Inv-loop μ-loop Inv-loop2 μ-loop2 Inv-positions μ-positions
+positions-holds c = passed-none (netOf 0 0 (c .args .inputs .now) (c .args .input-len .now) (c .args .outputs .now) (c .args .output-len .now)) (c .args .words .now) (c .args .n)
+
+mul-a : tie.Need-mul-a Inv-loop μ-loop Inv-loop2 μ-loop2 Inv-positions μ-positions
+mul-a c = omega arith
+
+shared-slice-read-a : tie.Need-shared-slice-read-a Inv-loop μ-loop Inv-loop2 μ-loop2 Inv-positions μ-positions
+shared-slice-read-a c = omega arith
+
+cast-a : tie.Need-cast-a Inv-loop μ-loop Inv-loop2 μ-loop2 Inv-positions μ-positions
+cast-a c = omega (arith, below (c .before))
+
+add-x : tie.Need-add-x Inv-loop μ-loop Inv-loop2 μ-loop2 Inv-positions μ-positions
+add-x c = omega arith
+
+mul-x : tie.Need-mul-x Inv-loop μ-loop Inv-loop2 μ-loop2 Inv-positions μ-positions
+mul-x c = omega arith
+
+shared-slice-read-x : tie.Need-shared-slice-read-x Inv-loop μ-loop Inv-loop2 μ-loop2 Inv-positions μ-positions
+shared-slice-read-x c = omega arith
+
+add-y : tie.Need-add-y Inv-loop μ-loop Inv-loop2 μ-loop2 Inv-positions μ-positions
+add-y c = omega arith
+
+mul-y : tie.Need-mul-y Inv-loop μ-loop Inv-loop2 μ-loop2 Inv-positions μ-positions
+mul-y c = omega arith
+
+shared-slice-read-y : tie.Need-shared-slice-read-y Inv-loop μ-loop Inv-loop2 μ-loop2 Inv-positions μ-positions
+shared-slice-read-y c = omega arith
+
+cast-from : tie.Need-cast-from Inv-loop μ-loop Inv-loop2 μ-loop2 Inv-positions μ-positions
+cast-from c = omega arith
+
+mul-from : tie.Need-mul-from Inv-loop μ-loop Inv-loop2 μ-loop2 Inv-positions μ-positions
+mul-from c = omega (arith, below (c .before .before .before))
+
+mul-inputs-end : tie.Need-mul-inputs-end Inv-loop μ-loop Inv-loop2 μ-loop2 Inv-positions μ-positions
+mul-inputs-end c = omega (arith, below (c .before .before .before))
+
+shared-slice-read-inputs-end : tie.Need-shared-slice-read-inputs-end Inv-loop μ-loop Inv-loop2 μ-loop2 Inv-positions μ-positions
+shared-slice-read-inputs-end c = omega (arith, below (c .before .before .before .before))
+
+cast-inputs-end : tie.Need-cast-inputs-end Inv-loop μ-loop Inv-loop2 μ-loop2 Inv-positions μ-positions
+cast-inputs-end c = omega (arith, inputs-few (c .before .before .before .before))
+
+add-inputs-end : tie.Need-add-inputs-end Inv-loop μ-loop Inv-loop2 μ-loop2 Inv-positions μ-positions
+add-inputs-end c = omega (arith, below (c .before .before .before .before), inputs-few (c .before .before .before .before))
+
+mul-outputs-end : tie.Need-mul-outputs-end Inv-loop μ-loop Inv-loop2 μ-loop2 Inv-positions μ-positions
+mul-outputs-end c = omega (arith, below (c .before .before .before .before))
+
+shared-slice-read-outputs-end : tie.Need-shared-slice-read-outputs-end Inv-loop μ-loop Inv-loop2 μ-loop2 Inv-positions μ-positions
+shared-slice-read-outputs-end c = omega (arith, below (c .before .before .before .before .before))
+
+cast-outputs-end : tie.Need-cast-outputs-end Inv-loop μ-loop Inv-loop2 μ-loop2 Inv-positions μ-positions
+cast-outputs-end c = omega (arith, outputs-few (c .before .before .before .before .before))
+
+add-outputs-end : tie.Need-add-outputs-end Inv-loop μ-loop Inv-loop2 μ-loop2 Inv-positions μ-positions
+add-outputs-end c = omega (arith, below (c .before .before .before .before .before), outputs-few (c .before .before .before .before .before))
+
+loop-holds : tie.Need-loop-holds Inv-loop μ-loop Inv-loop2 μ-loop2 Inv-positions μ-positions
+loop-holds c =
+    let i = c .before .before .before .before .before in
+    let g = i .before .before in
+    let p = i .before .positions in
+    let ws = g .args .words .now in
+    searching-start (g .args .inputs .now) (g .args .input-len .now) (getD ws (p .at) 0) (getD ws (p .at + 1) 0)
+
+mul-if1 : tie.Need-mul-if1 Inv-loop μ-loop Inv-loop2 μ-loop2 Inv-positions μ-positions
+mul-if1 c = omega (arith, below (c .before .before .before .before .before .before .before), inputs-few (c .before .before .before .before .before .before .before))
+
+shared-slice-read-if1 : tie.Need-shared-slice-read-if1 Inv-loop μ-loop Inv-loop2 μ-loop2 Inv-positions μ-positions
+shared-slice-read-if1 c = omega (arith, below (c .before .before .before .before .before .before .before .before), inputs-few (c .before .before .before .before .before .before .before .before))
+
+add-j : tie.Need-add-j Inv-loop μ-loop Inv-loop2 μ-loop2 Inv-positions μ-positions
+add-j c = omega (arith, below (c .before .before .before .before .before .before .before .before .before), inputs-few (c .before .before .before .before .before .before .before .before .before))
+
+loop-less : tie.Need-loop-less Inv-loop μ-loop Inv-loop2 μ-loop2 Inv-positions μ-positions
+loop-less c = omega arith
+
+loop-again : tie.Need-loop-again Inv-loop μ-loop Inv-loop2 μ-loop2 Inv-positions μ-positions
+loop-again c =
+    let i = c .before .before .before .before .before .before .before .before .before in
+    let g = i .before .before in
+    let p = i .before .positions in
+    let ws = g .args .words .now in
+    let l = c .before .before .before .loop in
+    searching-next (g .args .inputs .now) (g .args .input-len .now) (getD ws (p .at) 0) (getD ws (p .at + 1) 0) (l .j) (g .pre .0) (below i) (l .inv) (omega (arith, l .inv .high, c .before .before .loop-test .left)) (c .if1 .left)
+
+loop2-holds : tie.Need-loop2-holds Inv-loop μ-loop Inv-loop2 μ-loop2 Inv-positions μ-positions
+loop2-holds c =
+    let i = c .before .before .before .before .before .before .before .before .before in
+    let g = i .before .before in
+    let p = i .before .positions in
+    let ws = g .args .words .now in
+    searching-start (g .args .outputs .now) (g .args .output-len .now) (getD ws (p .at) 0) (getD ws (p .at + 2) 0)
+
+mul-if2 : tie.Need-mul-if2 Inv-loop μ-loop Inv-loop2 μ-loop2 Inv-positions μ-positions
+mul-if2 c = omega (arith, below (c .before .before .before .before .before .before .before .before .before .before .before), outputs-few (c .before .before .before .before .before .before .before .before .before .before .before))
+
+shared-slice-read-if2 : tie.Need-shared-slice-read-if2 Inv-loop μ-loop Inv-loop2 μ-loop2 Inv-positions μ-positions
+shared-slice-read-if2 c = omega (arith, below (c .before .before .before .before .before .before .before .before .before .before .before .before), outputs-few (c .before .before .before .before .before .before .before .before .before .before .before .before))
+
+add-k : tie.Need-add-k Inv-loop μ-loop Inv-loop2 μ-loop2 Inv-positions μ-positions
+add-k c = omega (arith, below (c .before .before .before .before .before .before .before .before .before .before .before .before .before), outputs-few (c .before .before .before .before .before .before .before .before .before .before .before .before .before))
+
+loop2-less : tie.Need-loop2-less Inv-loop μ-loop Inv-loop2 μ-loop2 Inv-positions μ-positions
+loop2-less c = omega arith
+
+loop2-again : tie.Need-loop2-again Inv-loop μ-loop Inv-loop2 μ-loop2 Inv-positions μ-positions
+loop2-again c =
+    let i = c .before .before .before .before .before .before .before .before .before .before .before .before .before in
+    let g = i .before .before in
+    let p = i .before .positions in
+    let ws = g .args .words .now in
+    let m = c .before .before .before .loop2 in
+    searching-next (g .args .outputs .now) (g .args .output-len .now) (getD ws (p .at) 0) (getD ws (p .at + 2) 0) (m .k) (g .pre .1 .0) (below i) (m .inv) (omega (arith, m .inv .high, c .before .before .loop2-test .left)) (c .if2 .left)
+
+add-i : tie.Need-add-i Inv-loop μ-loop Inv-loop2 μ-loop2 Inv-positions μ-positions
+add-i c = omega arith
+
+add-at : tie.Need-add-at Inv-loop μ-loop Inv-loop2 μ-loop2 Inv-positions μ-positions
+add-at c = omega arith
+
+positions-less : tie.Need-positions-less Inv-loop μ-loop Inv-loop2 μ-loop2 Inv-positions μ-positions
+positions-less c = omega arith
+
+positions-again : tie.Need-positions-again Inv-loop μ-loop Inv-loop2 μ-loop2 Inv-positions μ-positions
+positions-again c =
+    let i = c .before .before .before .before .before .before .before .before .before .before .before .before .before in
+    let g = i .before .before in
+    let p = i .before .positions in
+    let ws = g .args .words .now in
+    let l = c .before .before .before .before .before .before .before .loop in
+    let m = c .before .before .before .loop2 in
+    let x = searching-found (g .args .inputs .now) (g .args .input-len .now) (getD ws (p .at) 0) (getD ws (p .at + 1) 0) (l .j) (g .pre .0) (below i) (l .inv) (omega (arith, l .inv .high, c .before .before .before .before .before .before .loop-test .left)) (c .before .before .before .before .if1 .taken) in
+    let y = searching-found (g .args .outputs .now) (g .args .output-len .now) (getD ws (p .at) 0) (getD ws (p .at + 2) 0) (m .k) (g .pre .1 .0) (below i) (m .inv) (omega (arith, m .inv .high, c .before .before .loop2-test .left)) (c .if2 .taken) in
+    passed-next (netOf 0 0 (g .args .inputs .now) (g .args .input-len .now) (g .args .outputs .now) (g .args .output-len .now)) ws (g .args .n) (g .pre .1 .1) (p .i) (p .at) (p .inv) (i .positions-test .taken) x y
+
+add-result : tie.Need-add-result Inv-loop μ-loop Inv-loop2 μ-loop2 Inv-positions μ-positions
+add-result c = omega arith
+
+cast-result : tie.Need-cast-result Inv-loop μ-loop Inv-loop2 μ-loop2 Inv-positions μ-positions
+cast-result c = omega arith
+
+returns : tie.Need-returns Inv-loop μ-loop Inv-loop2 μ-loop2 Inv-positions μ-positions
+returns c start end =
+    let g = c .before .before .before in
+    let p = c .before .before .positions in
+    let ws = g .args .words .now in
+    let net = netOf 0 0 (g .args .inputs .now) (g .args .input-len .now) (g .args .outputs .now) (g .args .output-len .now) in
+    let h = c .if3 .taken in
+    let a = getD ws (p .at) 0 in
+    let b = activity-below ws (g .args .n) (g .pre .1 .1) (p .i) (p .at) h (p .inv .place-is) in
+    let e = ends-free (netOf start end (net .inputs) (net .«input_len») (net .outputs) (net .«output_len»)) (bindings ws) in
+    ⊎-elim (λ w. absurd (omega (arith, h, w .left)))
+    (⊎-elim
+    (λ w. let f = searching-end (g .args .inputs .now) (g .args .input-len .now) a (getD ws (p .at + 1) 0) (w .6 .j) (g .pre .0) b (w .6 .inv) (omega (arith, w .7 .taken)) in omega (arith, e, input-missing net ws (g .args .n) (g .pre .1 .1) (p .i) (p .at) (p .inv) h f))
+    (λ w. let f = searching-end (g .args .outputs .now) (g .args .output-len .now) a (getD ws (p .at + 2) 0) (w .10 .k) (g .pre .1 .0) b (w .10 .inv) (omega (arith, w .11 .taken)) in omega (arith, e, output-missing net ws (g .args .n) (g .pre .1 .1) (p .i) (p .at) (p .inv) h f)))
+    (c .before .positions-test .came)
+
+returns-2 : tie.Need-returns-2 Inv-loop μ-loop Inv-loop2 μ-loop2 Inv-positions μ-positions
+returns-2 c start end =
+    let g = c .before .before .before in
+    let p = c .before .before .positions in
+    let ws = g .args .words .now in
+    let net = netOf 0 0 (g .args .inputs .now) (g .args .input-len .now) (g .args .outputs .now) (g .args .output-len .now) in
+    sym (ends-free (netOf start end (net .inputs) (net .«input_len») (net .outputs) (net .«output_len»)) (bindings ws) ∙ all-passed net ws (g .args .n) (g .pre .1 .1) (p .i) (p .at) (p .inv) (c .if3 .left))
 
 pub first-missing-spec : {M : Type 1} → statement M
 first-missing-spec =
-    tie.close (tie.spec first-off-side-requires first-off-side-requires-2 earlier-requires returns)
+    tie.close
+    (tie.spec
+    Inv-loop
+    μ-loop
+    Inv-loop2
+    μ-loop2
+    Inv-positions
+    μ-positions
+    positions-holds
+    mul-a
+    shared-slice-read-a
+    cast-a
+    add-x
+    mul-x
+    shared-slice-read-x
+    add-y
+    mul-y
+    shared-slice-read-y
+    cast-from
+    mul-from
+    mul-inputs-end
+    shared-slice-read-inputs-end
+    cast-inputs-end
+    add-inputs-end
+    mul-outputs-end
+    shared-slice-read-outputs-end
+    cast-outputs-end
+    add-outputs-end
+    loop-holds
+    mul-if1
+    shared-slice-read-if1
+    add-j
+    loop-less
+    loop-again
+    loop2-holds
+    mul-if2
+    shared-slice-read-if2
+    add-k
+    loop2-less
+    loop2-again
+    add-i
+    add-at
+    positions-less
+    positions-again
+    add-result
+    cast-result
+    returns
+    returns-2)
