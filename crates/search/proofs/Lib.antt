@@ -5,6 +5,7 @@ pub mod SearchLaws
 pub mod ChoiceLaws
 pub mod Turns
 pub mod ReplayLaws
+pub mod RefusalLaws
 pub mod ValidLaws
 pub mod Theorems
 pub mod Examples

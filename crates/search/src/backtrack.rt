@@ -13,7 +13,7 @@ ghost use Rattle.obligations.specs.State.{allZero, State};
 ghost use Rattle.net.specs.Limits.{sets, places};
 ghost use Rattle.net.specs.Sides.{Sides};
 ghost use Rattle.search.specs.Search.{later, atEnd};
-ghost use Rattle.search.specs.Trace.{TraceFits};
+ghost use Rattle.search.specs.Trace.{TraceWithRoom};
 ghost use Rattle.search.specs.Replay.{endSays};
 ghost use Rattle.search.specs.Backtrack.{searchLent, searchTaken, outcomeMeans, Searched};
 
@@ -32,7 +32,7 @@ pub fn search_inputs<'a>(
     out: &mut [u32],
 ) -> Outcome
     requires { ⌜ Sides (now inputs) (now «input_len») × Sides (now outputs) (now «output_len») ⌝ }
-    requires { ⌜ TraceFits (now trace) (now out) ⌝ }
+    requires { ⌜ TraceWithRoom (now trace) (length (now out)) ⌝ }
     requires { ⌜ (at ≤ length (now trace)) × (trials ≤ budget) × State at (now due) ⌝ }
     ensures { λ r. ⌜ Searched budget (later trials (searchLent (now (inputs .entry)) (now («input_len» .entry)) (now (outputs .entry)) (now («output_len» .entry)) (now (trace .entry)) at (now (due .entry)))) (3 * at) r (now (due .entry)) (now (due .exit)) (now (out .entry)) (now (out .exit)) ⌝ }
 {
@@ -93,7 +93,7 @@ fn search_outputs<'a>(
     out: &mut [u32],
 ) -> Outcome
     requires { ⌜ Sides (now inputs) (now «input_len») × Sides (now outputs) (now «output_len») ⌝ }
-    requires { ⌜ TraceFits (now trace) (now out) ⌝ }
+    requires { ⌜ TraceWithRoom (now trace) (length (now out)) ⌝ }
     requires { ⌜ (at < length (now trace)) × (trials ≤ budget) × State at (now due) ⌝ }
     ensures { λ r. ⌜ Searched budget (later trials (searchTaken (now (inputs .entry)) (now («input_len» .entry)) (now (outputs .entry)) (now («output_len» .entry)) (now (trace .entry)) at x (now (due .entry)))) (3 * at) r (now (due .entry)) (now (due .exit)) (now (out .entry)) (now (out .exit)) ⌝ }
 {

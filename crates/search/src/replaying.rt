@@ -9,10 +9,11 @@ use net::refusal;
 use obligations::POSITIONS;
 use obligations::trace;
 ghost use mathlib.Core.Path.{_≡_};
+ghost use lib.ListN.{length};
 ghost use Rattle.net.specs.Sides.{netOf, Sides};
-ghost use Rattle.search.specs.Trace.{fits, TraceFits};
-ghost use Rattle.search.specs.Replay.{replayMeans, CheckedDone, ReplayDone};
-ghost use Rattle.search.specs.Backtrack.{outcomeMeans};
+ghost use Rattle.search.specs.Trace.{hasRoom, TraceWithRoom};
+ghost use Rattle.search.specs.Replay.{replayMeans, ReplayDone};
+ghost use Rattle.search.specs.Backtrack.{outcomeMeans, CheckedDone};
 
 // The replay of a trace in a net. Found: the sequence is at the buffer's front. No other answer changes the buffer.
 pub fn replay(net: Net, trace: &[u32], budget: u64, out: &mut [u32]) -> ReplayAnswer
@@ -24,7 +25,7 @@ pub fn replay(net: Net, trace: &[u32], budget: u64, out: &mut [u32]) -> ReplayAn
             place: 0,
         };
     }
-    if !fits(trace.len(), out.len()) {
+    if !has_room(trace.len(), out.len()) {
         return ReplayAnswer::Refused {
             number: refusal::OUTSIDE_LIMITS,
             place: 0,
@@ -49,8 +50,8 @@ pub fn replay(net: Net, trace: &[u32], budget: u64, out: &mut [u32]) -> ReplayAn
 }
 
 // Whether a trace of n entries isn't too long, and a buffer of `room` words has three for each position.
-fn fits(n: usize, room: usize) -> bool
-    ensures { λ r. ⌜ r ≡ fits n room ⌝ }
+fn has_room(n: usize, room: usize) -> bool
+    ensures { λ r. ⌜ r ≡ hasRoom n room ⌝ }
 {
     if POSITIONS < n {
         return false;
@@ -61,7 +62,7 @@ fn fits(n: usize, room: usize) -> bool
 // The replay of a trace in a net that has been checked.
 fn replay_checked(net: Net, trace: &[u32], budget: u64, out: &mut [u32]) -> ReplayAnswer
     requires { ⌜ Sides (net .inputs) (net .«input_len») × Sides (net .outputs) (net .«output_len») ⌝ }
-    requires { ⌜ TraceFits (now trace) (now out) ⌝ }
+    requires { ⌜ TraceWithRoom (now trace) (length (now out)) ⌝ }
     ensures { λ r. ⌜ CheckedDone net (now (trace .entry)) budget r (now (out .entry)) (now (out .exit)) ⌝ }
 {
     let start = net.start;
@@ -92,7 +93,7 @@ pub fn replay_lent<'a>(
     out: &mut [u32],
 ) -> ReplayAnswer
     requires { ⌜ Sides (now inputs) (now «input_len») × Sides (now outputs) (now «output_len») ⌝ }
-    requires { ⌜ TraceFits (now trace) (now out) ⌝ }
+    requires { ⌜ TraceWithRoom (now trace) (length (now out)) ⌝ }
     ensures { λ r. ⌜ CheckedDone (netOf start end (now (inputs .entry)) (now («input_len» .entry)) (now (outputs .entry)) (now («output_len» .entry))) (now (trace .entry)) budget r (now (out .entry)) (now (out .exit)) ⌝ }
 {
     if !trace::is_shaped(trace, 1, trace.len(), start, end) {
