@@ -73,7 +73,7 @@ module _ (s : List Binding) (below : (i : ℕ) → i < length s → at s i .acti
   -- what is due after i positions was added by one of them
   due-from : (i : ℕ) → i ≤ length s → 1 ≤ due i → (j : ℕ) × (j < i) × Adds s p q j
   unfolding due run
-  due-from zero h d = absurd (omega (arith, zero-count nothing nothing-zero p q))
+  due-from zero h d = absurd (omega (arith, zero-count nothing nothing-zero p q hp hq))
   due-from (suc i) h d =
       ⊎-elim (λ e. (i, omega arith, does-add i e)) (λ e. let w = due-from i (omega arith) (omega (arith, was-due i (omega arith) e)) in (w .0, omega (arith, w .1), w .2))
       (true-or-false (adds i))

@@ -1,12 +1,12 @@
 -- The net after a list of calls: it holds exactly what it held and the sets of the sequences accepted, each of which is
 -- well-formed for its start and end. One call after the other. Assumes nothing.
 use Prim.Native.Nat.{ℕ}
-use mathlib.Core.Path.{_≡_, refl, sym, subst, _∙_}
-use mathlib.Core.Bool.{true}
+use mathlib.Core.Path.{_≡_, refl, sym, ap, subst, _∙_}
+use mathlib.Core.Bool.{Bool, true, false, cond}
 use mathlib.Core.List.{List, [], _∷_, List·Memᴰ, List·Memᴰ·head, List·Memᴰ·tail, List·Memᴰ·not-nil, List·Memᴰ·cases-cons}
 use mathlib.Core.Logic.{_↔_, _⊎_, inl, inr, ⊎-elim}
 use Rattle.obligations.specs.Sequence.{Binding, WellFormed}
-use Rattle.obligations.proofs.BoolLaws.{true-or-false}
+use Rattle.net.specs.Refusals.{Says, accepted, refused}
 use Rattle.net.specs.Sides.{OnSide}
 use Rattle.net.specs.Orderly.{Orderly}
 use Rattle.net.specs.Valid.{Valid}
@@ -14,9 +14,10 @@ use Rattle.net.specs.declared.Net.{Net}
 use Rattle.net.specs.declared.Side.{Side}
 use Rattle.net.specs.declared.Side.the-variants.{Input, Output}
 use Rattle.sequences.specs.Gain.{SetOf, Gains}
-use Rattle.promises.specs.Calls.{Call, sequenceOf, says, gives, grown, learned, AllWords}
+use Rattle.sequences.specs.Learn.{newSets}
+use Rattle.promises.specs.Calls.{Call, sequenceOf, says, gives, grown, AllWords}
 use Rattle.promises.proofs.ValidWalkLaws.{SetsAreMasks}
-use Rattle.promises.proofs.CallLaws.{call-gains, call-valid, call-stays, call-masks}
+use Rattle.promises.proofs.CallLaws.{call-listed, call-accepted, call-gains, call-valid, call-stays, call-masks}
 
 -- m is a set that some of the sequences has for activity a's side
 pub record SetOfSome (side : Side) (ss : List (List Binding)) (a m : ℕ) : Type 0 where
@@ -31,7 +32,6 @@ pub record Grown (net after : Net) (ss : List (List Binding)) : Type 0 where
   pub is-orderly : Orderly after
   pub on-sides : (side : Side) (a m : ℕ) → OnSide after side a m ↔ (OnSide net side a m ⊎ SetOfSome side ss a m)
   pub each-formed : (s : List Binding) → List·Memᴰ s ss → WellFormed (net .start) (net .end) s
-  pub each-masks : (s : List Binding) → List·Memᴰ s ss → SetsAreMasks s
 
 grown-none : (net : Net) → Orderly net → Grown net net []
 grown-none net o = record {
@@ -40,7 +40,6 @@ grown-none net o = record {
   is-orderly = o;
   on-sides = λ side a m. (inl, (λ w. ⊎-elim (λ i. i) (λ f. absurd (List·Memᴰ·not-nil (f .among))) w));
   each-formed = λ s m. absurd (List·Memᴰ·not-nil m);
-  each-masks = λ s m. absurd (List·Memᴰ·not-nil m);
 }
 
 -- well-formed for the start and end of a net that has the same
@@ -48,8 +47,8 @@ formed-as : {s : List Binding} (start end start′ end′ : ℕ) → start ≡ s
 formed-as {s} start end start′ end′ e f w = subst (λ (a : ℕ). WellFormed a end′ s) e (subst (λ (b : ℕ). WellFormed start b s) f w)
 
 -- one sequence more, before the others
-grown-more : (net next after : Net) (s : List Binding) (ss : List (List Binding)) → SetsAreMasks s → Valid next s → Gains net s next → Grown next after ss → Grown net after (s ∷ ss)
-grown-more net next after s ss small v g r = record {
+grown-more : (net next after : Net) (s : List Binding) (ss : List (List Binding)) → Valid next s → Gains net s next → Grown next after ss → Grown net after (s ∷ ss)
+grown-more net next after s ss v g r = record {
   same-start = r .same-start ∙ g .same-start;
   same-end = r .same-end ∙ g .same-end;
   is-orderly = r .is-orderly;
@@ -58,7 +57,6 @@ grown-more net next after s ss small v g r = record {
     (λ w. r .on-sides side a m .1 (⊎-elim (λ i. inl (g .on-sides side a m .1 (inl i))) (λ f. back side a m f (List·Memᴰ·cases-cons (f .among))) w)),
   );
   each-formed = λ t m. ⊎-elim (λ e. rw e (as-net s (v .well-formed))) (λ k. as-net t (r .each-formed t k)) (List·Memᴰ·cases-cons m);
-  each-masks = λ t m. ⊎-elim (λ e. rw e small) (λ k. r .each-masks t k) (List·Memᴰ·cases-cons m);
 }
   where
     as-net : (t : List Binding) → WellFormed (next .start) (next .end) t → WellFormed (net .start) (net .end) t
@@ -68,19 +66,55 @@ grown-more net next after s ss small v g r = record {
     back side a m f (inl e) = inl (g .on-sides side a m .1 (inr (subst (λ (t : List Binding). SetOf side t a m) e (f .set-of))))
     back side a m f (inr k) = inr (record { sequence = f .sequence; among = k; set-of = f .set-of })
 
-pub grown-list : (net : Net) (calls : List Call) → Orderly net → AllWords calls → Grown net (grown net calls) (learned net calls)
-unfolding grown learned
-grown-list net [] o w = grown-none net o
-grown-list net (call ∷ calls) o w =
-    ⊎-elim (λ e. rw e (more e (λ p. grown-list (gives net call) calls p (λ c m. w c (List·Memᴰ·tail m)))))
-    (λ e. rw e (subst (λ (n : Net). Grown n (grown (gives net call) calls) (learned (gives net call) calls)) (call-stays net call e) (grown-list (gives net call) calls (subst Orderly (sym (call-stays net call e)) o) (λ c m. w c (List·Memᴰ·tail m)))))
-    (true-or-false (says net call .ok))
+-- ---- a list of calls
+
+-- the sequences of the calls that are accepted
+unfoldable pub learned : Net → List Call → List (List Binding)
+learned net [] = []
+learned net (call ∷ calls) = let rest = learned (gives net call) calls in cond (says net call .ok) (sequenceOf call ∷ rest) rest
+
+pub learned-nothing : (net : Net) → learned net [] ≡ []
+unfolding learned
+learned-nothing net = refl
+
+module _ (net : Net) (call : Call) (calls : List Call) where
+  pub learned-more : (new : ℕ) → says net call ≡ accepted new → learned net (call ∷ calls) ≡ sequenceOf call ∷ learned (gives net call) calls
+  unfolding learned
+  learned-more new e = rw (ap (λ (s : Says). s .ok) e)
+
+  pub learned-same : (n p : ℕ) → says net call ≡ refused n p → learned net (call ∷ calls) ≡ learned net calls
+  unfolding learned
+  learned-same n p e = rw (ap (λ (s : Says). s .ok) e, call-stays net call n p e)
+
+-- a call is accepted, or refused
+pub accepted-or-refused : (net : Net) (call : Call) → ((new : ℕ) × (says net call ≡ accepted new)) ⊎ ((n p : ℕ) × (says net call ≡ refused n p))
+accepted-or-refused net call =
+    let l = call-listed net call in
+    ⊎-elim (λ none. inl (newSets net (sequenceOf call), call-accepted net call .1 none)) (λ g. inr (g .0, g .1, l .refused-exactly (g .0) (g .1) .1 (g .2))) (l .given-or-none)
+
+pub grown-list : (net : Net) (calls : List Call) → Orderly net → Grown net (grown net calls) (learned net calls)
+unfolding grown
+grown-list net [] o = rw (learned-nothing net) (grown-none net o)
+grown-list net (call ∷ calls) o =
+    ⊎-elim
+    (λ w.
+    let g = call-gains net call (w .0) (w .1) in
+    rw (learned-more net call calls (w .0) (w .1))
+    (grown-more net (gives net call) (grown (gives net call) calls) (sequenceOf call) (learned (gives net call) calls) (call-valid net call (w .0) (w .1)) g (grown-list (gives net call) calls (g .is-orderly))))
+    (λ w. rw (learned-same net call calls (w .0) (w .1) (w .2), call-stays net call (w .0) (w .1) (w .2)) (grown-list net calls o))
+    (accepted-or-refused net call)
+
+-- each set of the sequences has 32 bits, where each word of the calls has
+pub learned-masks : (net : Net) (calls : List Call) → AllWords calls → (s : List Binding) → List·Memᴰ s (learned net calls) → SetsAreMasks s
+unfolding learned
+learned-masks net [] w s m = absurd (List·Memᴰ·not-nil m)
+learned-masks net (call ∷ calls) w s m =
+    cases (says net call .ok) (learned-masks (gives net call) calls (λ c i. w c (List·Memᴰ·tail i)) s) m
   where
-    more : says net call .ok ≡ true → (Orderly (gives net call) → Grown (gives net call) (grown (gives net call) calls) (learned (gives net call) calls)) → Grown net (grown (gives net call) calls) (sequenceOf call ∷ learned (gives net call) calls)
-    more e rest =
-        let g = call-gains net call e in
-        let small = w call (List·Memᴰ·head refl) in
-        grown-more net (gives net call) (grown (gives net call) calls) (sequenceOf call) (learned (gives net call) calls) (call-masks call small) (call-valid net call small e) g (rest (g .is-orderly))
+    cases : (t : Bool) → (List·Memᴰ s (learned (gives net call) calls) → SetsAreMasks s)
+        → List·Memᴰ s (cond t (sequenceOf call ∷ learned (gives net call) calls) (learned (gives net call) calls)) → SetsAreMasks s
+    cases true rest k = ⊎-elim (λ e. rw e (call-masks call (w call (List·Memᴰ·head refl)))) rest (List·Memᴰ·cases-cons k)
+    cases false rest k = rest k
 
 -- each of the sequences is valid in the net that has grown by them
 pub grown-valid : (net after : Net) (ss : List (List Binding)) → Grown net after ss → (s : List Binding) → List·Memᴰ s ss → Valid after s

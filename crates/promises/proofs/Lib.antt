@@ -3,12 +3,8 @@ pub mod DueLaws
 pub mod ValidWalkLaws
 pub mod CallLaws
 pub mod GrownLaws
-pub mod MaskLaws
 pub mod PassLaws
 pub mod WithinLaws
-pub mod RefusalLaws
-pub mod SentenceLaws
-pub mod AnswerLaws
 pub mod ReplayLaws
 pub mod Theorems
 pub mod Examples

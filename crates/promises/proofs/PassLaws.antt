@@ -1,48 +1,37 @@
 -- A net grown from a fresh one by sequences, at least one, passes (000, Theorem 1): each of its activities occurs in one of them,
 -- since what else it holds is the two empty sets. Assumes nothing.
-use Prim.Native.Nat.{ℕ, _^_, _<_}
+use Prim.Native.Nat.{ℕ}
 use mathlib.Core.Path.{_≡_, sym, ap, subst, _∙_}
 use mathlib.Core.Bool.{true}
 use mathlib.Core.List.{List, List·Memᴰ}
-use mathlib.Core.Logic.{_⊎_, inl, inr, ⊎-elim}
-use native.Mathlib.Omega.{arith}
+use mathlib.Core.Logic.{_⊎_, inl, inr}
 use Rattle.obligations.specs.Sets.{member}
 use Rattle.obligations.specs.Sequence.{Binding}
 use Rattle.obligations.proofs.BoolLaws.{false-not-true}
 use Rattle.obligations.proofs.SetLaws.{member-none}
-use Rattle.net.specs.Refusals.{accepted}
-use Rattle.net.specs.Sides.{emptyAt, OnSide, Masks}
+use Rattle.net.specs.Sides.{emptyAt, OnSide}
 use Rattle.net.specs.Orderly.{endsOk}
 use Rattle.net.specs.Fresh.{freshNet}
 use Rattle.net.specs.Valid.{Valid}
 use Rattle.net.specs.declared.Net.{Net}
 use Rattle.net.specs.declared.Side.{Side}
 use Rattle.net.specs.declared.Side.the-variants.{Input, Output}
-use Rattle.net.proofs.OrderlyLaws.{facts-orderly}
 use Rattle.net.proofs.FreshLaws.{fresh-on-side}
-use Rattle.walks.specs.Arcs.{arcs}
 use Rattle.walks.specs.Walk.{InNet, the-start, the-end, with-a-set, in-a-set, OnWalk, Passes}
-use Rattle.walks.specs.Check.{checkSays}
-use Rattle.walks.proofs.CheckLaws.{says-none-lost, passes-none-lost}
-use Rattle.promises.proofs.ValidWalkLaws.{Occurs, occurring-on-walk, named-occurs, start-occurs, end-occurs}
-use Rattle.promises.proofs.MaskLaws.{sets-masks}
+use Rattle.promises.proofs.ValidWalkLaws.{SetsAreMasks, Occurs, occurring-on-walk, named-occurs, start-occurs, end-occurs}
 use Rattle.promises.proofs.GrownLaws.{SetOfSome, Grown, grown-valid}
 
--- what passes is said to pass
-pub passes-said : (net : Net) → Passes net → checkSays net ≡ accepted (arcs net)
-passes-said net p = let o = facts-orderly net (p .is-orderly) in says-none-lost net o (passes-none-lost net o p)
-
-module _ (start end : ℕ) (h : endsOk start end ≡ true) (after : Net) (ss : List (List Binding)) (g : Grown (freshNet start end) after ss) where
+module _ (start end : ℕ) (h : endsOk start end ≡ true) (after : Net) (ss : List (List Binding)) (g : Grown (freshNet start end) after ss) (small : (s : List Binding) → List·Memᴰ s ss → SetsAreMasks s) where
   valid : (s : List Binding) → List·Memᴰ s ss → Valid after s
   valid s m = grown-valid (freshNet start end) after ss g s m
 
   of-sequence : (a : ℕ) (s : List Binding) → List·Memᴰ s ss → Occurs s a → OnWalk after a
-  of-sequence a s m o = occurring-on-walk after s (g .each-masks s m) (valid s m) a o
+  of-sequence a s m o = occurring-on-walk after s (small s m) (valid s m) a o
 
   -- a side that holds the empty set is the start's or the end's
   at-an-end : (side : Side) (a : ℕ) → a ≡ emptyAt after side → (s : List Binding) → List·Memᴰ s ss → OnWalk after a
-  at-an-end Input a e s m = of-sequence a s m (rw e (start-occurs after s (g .each-masks s m) (valid s m)))
-  at-an-end Output a e s m = of-sequence a s m (rw e (end-occurs after s (g .each-masks s m) (valid s m)))
+  at-an-end Input a e s m = of-sequence a s m (rw e (start-occurs after s (small s m) (valid s m)))
+  at-an-end Output a e s m = of-sequence a s m (rw e (end-occurs after s (small s m) (valid s m)))
 
   empty-as-fresh : (side : Side) → emptyAt (freshNet start end) side ≡ emptyAt after side
   empty-as-fresh Input = sym (g .same-start)
@@ -57,20 +46,13 @@ module _ (start end : ℕ) (h : endsOk start end ≡ true) (after : Net) (ss : L
   in-set side b a m t (inr f) =
       let s = f .sequence in
       of-sequence a s (f .among)
-      (named-occurs after s (g .each-masks s (f .among)) (valid s (f .among)) side (f .set-of .position) a (f .set-of .inside) (subst (λ (n : ℕ). member n a ≡ true) (sym (f .set-of .set-is)) t))
+      (named-occurs after s (small s (f .among)) (valid s (f .among)) side (f .set-of .position) a (f .set-of .inside) (subst (λ (n : ℕ). member n a ≡ true) (sym (f .set-of .set-is)) t))
 
   on-walk : (s : List Binding) → List·Memᴰ s ss → (a : ℕ) → InNet after a → OnWalk after a
   on-walk s k a (the-start e) = at-an-end Input a e s k
   on-walk s k a (the-end e) = at-an-end Output a e s k
   on-walk s k a (with-a-set side m i) = with-set side a m s k (g .on-sides side a m .0 i)
-  on-walk s k a (in-a-set side b n) = in-set side b a (n .set) (n .in-set) (g .on-sides side b (n .set) .0 (n .on-side))
+  on-walk s k a (in-a-set side b l n) = in-set side b a (n .set) (n .in-set) (g .on-sides side b (n .set) .0 (n .on-side))
 
   pub grown-net-passes : (s : List Binding) → List·Memᴰ s ss → Passes after
   grown-net-passes s m = record { is-orderly = g .is-orderly; on-walks = on-walk s m }
-
-  -- each of its sets has 32 bits
-  pub grown-masks : Masks after
-  grown-masks = sets-masks after (g .is-orderly) (λ side a m i. ⊎-elim (λ j. rw (fresh-on-side start end h side a m .0 j .1) (omega arith)) (of-some side a m) (g .on-sides side a m .0 i))
-    where
-      of-some : (side : Side) (a m : ℕ) → SetOfSome side ss a m → m < 2 ^ 32
-      of-some side a m f = subst (λ (n : ℕ). n < 2 ^ 32) (f .set-of .set-is) (g .each-masks (f .sequence) (f .among) side (f .set-of .position) (f .set-of .inside))

@@ -1,110 +1,104 @@
--- The promise of specs/Promise.antt: the answers are those of each call's chain, and the rest is read off the net that has grown
+-- The promise of specs/Promise.antt: the answers are those of each call's sentences, and the rest is read off the net that has grown
 -- from the fresh one. Assumes nothing.
 use Prim.Native.Nat.{ℕ, _-_}
-use mathlib.Core.Path.{_≡_, refl, sym, ap, subst, _∙_}
-use mathlib.Core.Bool.{true, false}
-use mathlib.Core.List.{List, [], _∷_, List·Memᴰ, List·Memᴰ·head, List·Memᴰ·tail, Memᴰ·append-right}
-use mathlib.Core.Logic.{_↔_, ⊎-elim}
+use mathlib.Core.Path.{_≡_, refl, sym, ap, _∙_}
+use mathlib.Core.Bool.{true}
+use mathlib.Core.List.{List, [], _∷_, List·Memᴰ}
+use mathlib.Core.Logic.{_↔_, _⊎_, inl, inr}
 use Rattle.obligations.specs.Sequence.{Binding}
-use Rattle.obligations.proofs.BoolLaws.{true-or-false, false-not-true}
-use Rattle.net.specs.Refusals.{accepted}
+use Rattle.net.specs.Refusals.{Says, accepted}
+use Rattle.net.specs.Sentences.{NoneHolds, Listed}
 use Rattle.net.specs.Sides.{netSize}
 use Rattle.net.specs.Orderly.{endsOk}
-use Rattle.net.specs.Fresh.{freshNet, freshSays, freshGives}
+use Rattle.net.specs.Fresh.{freshNet}
 use Rattle.net.specs.Contained.{containedSays, Contained}
 use Rattle.net.specs.Valid.{Valid}
 use Rattle.net.specs.declared.Net.{Net}
-use Rattle.net.proofs.OrderlyLaws.{orderly-facts, facts-orderly}
+use Rattle.net.proofs.OrderlyLaws.{orderly-facts}
 use Rattle.net.proofs.FreshLaws.{fresh-orderly}
+use Rattle.net.proofs.SentenceLaws.{accepted-not-refused}
+use Rattle.net.proofs.Theorems.{fresh-made, contained-said}
 use Rattle.walks.specs.Check.{checkSays}
-use Rattle.walks.proofs.CheckLaws.{said-orderly}
+use Rattle.walks.proofs.Theorems.{passes-says, said-passes}
 use Rattle.sequences.specs.Learn.{newSets}
-use Rattle.sequences.specs.Statements.{Words}
-use Rattle.promises.specs.Calls.{Call, wordsOf, sequenceOf, gives, grown, answers, learned, AllWords}
-use Rattle.promises.specs.Refusals.{NoneHolds}
+use Rattle.promises.specs.Calls.{Call, sequenceOf, refusals, says, gives, grown, answers}
 use Rattle.promises.specs.Promise.{Called, Runs, none-left, accepts, refuses, Promise, Promised}
-use Rattle.promises.proofs.CallLaws.{call-gains, call-gained, call-stays}
-use Rattle.promises.proofs.RefusalLaws.{answered-one, answered-accepted, answered-refused, none-ok, listed-not-ok}
-use Rattle.promises.proofs.AnswerLaws.{call-answered}
-use Rattle.promises.proofs.GrownLaws.{Grown, grown-list, grown-valid}
-use Rattle.promises.proofs.PassLaws.{passes-said, grown-net-passes, grown-masks}
-use Rattle.promises.proofs.WithinLaws.{valid-grows, said-contained, contained-said, all-valid-contained}
+use Rattle.promises.proofs.CallLaws.{call-listed, call-accepted, call-gains, call-gained, call-stays}
+use Rattle.promises.proofs.GrownLaws.{learned, learned-nothing, learned-more, learned-same, accepted-or-refused, Grown, grown-list, learned-masks, grown-valid}
+use Rattle.promises.proofs.PassLaws.{grown-net-passes}
+use Rattle.promises.proofs.WithinLaws.{valid-grows, all-valid-contained}
 use Rattle.promises.proofs.ReplayLaws.{found-not-none, none-exactly}
 
 -- ---- one call
 
-pub called : (net : Net) (call : Call) → Words (wordsOf call) → Called net call
-called net call w =
-    let a = call-answered net call w in
-    record {
-      one-or-none = answered-one net call a;
-      accepted-exactly = λ new. (
-        (λ e. let f = answered-accepted net call a new .0 e in (f .0, f .1 ∙ sym (same-count (f .0)))),
-        (λ f. answered-accepted net call a new .1 (f .0, f .1 ∙ same-count (f .0))),
-      );
-      refused-exactly = answered-refused net call a;
-      gains = λ n. call-gains net call (none-ok net call a n);
-      stays = λ number place l. call-stays net call (listed-not-ok net call a number place l);
-    }
+pub called : (net : Net) (call : Call) → Called net call
+called net call = record {
+  as-listed = call-listed net call;
+  accepted-exactly = λ new. (
+    (λ e. let none = not-refused new e in (none, ap (λ (s : Says). s .value) (sym e ∙ call-accepted net call .1 none) ∙ sym (same-count none))),
+    (λ w. call-accepted net call .1 (w .0) ∙ ap accepted (sym (w .1 ∙ same-count (w .0)))),
+  );
+  gains = λ none. call-gains net call (newSets net (sequenceOf call)) (call-accepted net call .1 none);
+  stays = λ n p l. call-stays net call n p (call-listed net call .refused-exactly n p .1 l);
+}
   where
-    same-count : NoneHolds net call → netSize (gives net call) - netSize net ≡ newSets net (sequenceOf call)
-    same-count n = ap (λ (x : Net). netSize x - netSize net) (call-gained net call (none-ok net call (call-answered net call w) n))
+    not-refused : (new : ℕ) → says net call ≡ accepted new → NoneHolds (refusals net call)
+    not-refused new e = call-listed net call .accepted-exactly .0 (λ n p f. accepted-not-refused new n p (sym e ∙ f))
+
+    same-count : NoneHolds (refusals net call) → netSize (gives net call) - netSize net ≡ newSets net (sequenceOf call)
+    same-count none = ap (λ (x : Net). netSize x - netSize net) (call-gained net call (newSets net (sequenceOf call)) (call-accepted net call .1 none))
 
 -- ---- a list of calls
 
 -- one call, and the run of the others
-runs-more : (net : Net) (call : Call) (calls : List Call) → Words (wordsOf call)
-    → ((next : Net) → Runs next calls (answers next calls) (learned next calls) (grown next calls))
+runs-more : (net : Net) (call : Call) (calls : List Call) → ((next : Net) → Runs next calls (answers next calls) (learned next calls) (grown next calls))
+    → NoneHolds (refusals net call) ⊎ ((n p : ℕ) × Listed (refusals net call) n p)
     → Runs net (call ∷ calls) (answers net (call ∷ calls)) (learned net (call ∷ calls)) (grown net (call ∷ calls))
-unfolding answers learned grown
-runs-more net call calls w rest =
-    let c = called net call w in
-    ⊎-elim
-    (λ n. let e = c .accepted-exactly (netSize (gives net call) - netSize net) .1 (n, refl) in rw e (accepts n (c .gains n) refl (rest (gives net call))))
-    (λ l. let e = c .refused-exactly (l .0) (l .1) .1 (l .2) in rw (e, c .stays (l .0) (l .1) (l .2)) (refuses (l .2) (rest net))) (c .one-or-none)
+unfolding answers grown
+runs-more net call calls rest (inl none) =
+    let new = netSize (gives net call) - netSize net in
+    let e = called net call .accepted-exactly new .1 (none, refl) in
+    rw (e, learned-more net call calls new e) (accepts none (called net call .gains none) refl (rest (gives net call)))
+runs-more net call calls rest (inr (n, p, l)) =
+    let e = call-listed net call .refused-exactly n p .1 l in
+    rw (e, learned-same net call calls n p e, called net call .stays n p l) (refuses l (rest net))
 
-runs-list : (net : Net) (calls : List Call) → AllWords calls → Runs net calls (answers net calls) (learned net calls) (grown net calls)
-unfolding answers learned grown
-runs-list net [] w = none-left
-runs-list net (call ∷ calls) w =
-    runs-more net call calls (w call (List·Memᴰ·head refl)) (λ next. runs-list next calls (λ d m. w d (List·Memᴰ·tail m)))
+runs-list : (net : Net) (calls : List Call) → Runs net calls (answers net calls) (learned net calls) (grown net calls)
+unfolding answers grown
+runs-list net [] = rw (learned-nothing net) none-left
+runs-list net (call ∷ calls) = runs-more net call calls (λ next. runs-list next calls) (call-listed net call .given-or-none)
 
--- the net that fresh returns where it accepts
-fresh-made : (start end : ℕ) → freshSays start end .ok ≡ true → (endsOk start end ≡ true) × (freshGives start end ≡ freshNet start end)
-unfolding freshSays freshGives
-fresh-made start end e =
-    let h = ⊎-elim (λ o. o) (λ o. absurd (false-not-true (refl {a = false}) (rw o at e))) (true-or-false (endsOk start end)) in
-    (h, rw h)
+module _ (start end : ℕ) (h : endsOk start end ≡ true) (calls : List Call) where
+  abbrev first : Net
+  first = freshNet start end
 
-module _ (start end : ℕ) (h : endsOk start end ≡ true) (calls : List Call) (w : AllWords calls) where
-  grew : Grown (freshNet start end) (grown (freshNet start end) calls) (learned (freshNet start end) calls)
-  grew = grown-list (freshNet start end) calls (orderly-facts (freshNet start end) (fresh-orderly start end h)) w
+  grew : Grown first (grown first calls) (learned first calls)
+  grew = grown-list first calls (orderly-facts first (fresh-orderly start end h))
 
-  grown-contained : (other : Net) → containedSays (grown (freshNet start end) calls) other ≡ accepted 1 → Contained (grown (freshNet start end) calls) other
-  grown-contained other e = let net = grown (freshNet start end) calls in said-contained net other (facts-orderly net (grew .is-orderly)) e
-
-  contained-valid : (other : Net) → checkSays other .ok ≡ true → other .start ≡ freshNet start end .start → other .end ≡ freshNet start end .end
-      → (containedSays (grown (freshNet start end) calls) other ≡ accepted 1) ↔ ((s : List Binding) → List·Memᴰ s (learned (freshNet start end) calls) → Valid other s)
-  contained-valid other p es ee =
-      let net = grown (freshNet start end) calls in
-      let ss = learned (freshNet start end) calls in
-      let o = said-orderly other p in (
-        (λ e s m. valid-grows net other s (grown-contained other e) (grown-valid (freshNet start end) net ss grew s m)),
-        (λ v. contained-said net other (facts-orderly net (grew .is-orderly)) o (all-valid-contained start end h net ss grew other (orderly-facts other o) es ee v)),
+  contained-valid : (other : Net) (n : ℕ) → checkSays other ≡ accepted n → other .start ≡ first .start → other .end ≡ first .end
+      → (containedSays (grown first calls) other ≡ accepted 1) ↔ ((s : List Binding) → List·Memᴰ s (learned first calls) → Valid other s)
+  contained-valid other n p es ee =
+      let net = grown first calls in
+      let ss = learned first calls in
+      let o = said-passes other (ap (λ (s : Says). s .ok) p) .is-orderly in
+      let c = contained-said net other .0 in (
+        (λ e s m. valid-grows net other s (c .0 e .2) (grown-valid first net ss grew s m)),
+        (λ v. c .1 (grew .is-orderly, o, all-valid-contained start end h net ss grew other o es ee v)),
       )
 
-  promise : Promise (freshNet start end) calls
+  promise : Promise first calls
   promise =
-      let net = grown (freshNet start end) calls in
-      let ss = learned (freshNet start end) calls in
+      let net = grown first calls in
+      let ss = learned first calls in
       record {
-        runs = runs-list (freshNet start end) calls w;
-        each-call = λ before after call e. called (grown (freshNet start end) before) call (w call (subst (List·Memᴰ call) (sym e) (Memᴰ·append-right before (List·Memᴰ·head refl))));
-        grown-passes = λ s m. let p = grown-net-passes start end h net ss grew s m in (p, passes-said net p);
+        learned = ss;
+        runs = runs-list first calls;
+        each-call = λ before after call e. called (grown first before) call;
+        grown-passes = λ w s m. let p = grown-net-passes start end h net ss grew (learned-masks first calls w) s m in (p, passes-says net p);
         contained-exactly = contained-valid;
-        found-never-none = λ other e. found-not-none net other (grew .is-orderly) (grown-contained other e) (grown-masks start end h net ss grew);
+        found-never-none = λ other e. found-not-none net other (grew .is-orderly) (contained-said net other .0 .0 e .2);
         none-exactly = none-exactly;
       }
 
 pub promised : Promised
-promised start end e calls w = let f = fresh-made start end e in rw (f .1) (promise start end (f .0) calls w)
+promised start end e calls = let f = fresh-made start end e in rw (f .1) (promise start end (f .0) calls)

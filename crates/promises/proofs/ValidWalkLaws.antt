@@ -40,12 +40,12 @@ module _ (net : Net) (s : List Binding) (small : SetsAreMasks s) (v : Valid net 
   -- what a position takes was added by an earlier one, and what it adds is taken by a later one
   from-earlier : (i p : ℕ) → i < length s → member (at s i .input) p ≡ true → (j : ℕ) × (j < i) × Adds s p (at s i .activity) j
   from-earlier i p h m =
-      due-added s below p (at s i .activity) (member-activity (at s i .input) p (small Input i h) m) (below i h) i (omega arith) (v .well-formed .each-possible i h p m)
+      due-added s below p (at s i .activity) (member-activity (at s i .input) p (small Input i h) m) (below i h) i (omega arith) (v .well-formed .each-possible i h p (member-activity (at s i .input) p (small Input i h) m) m)
 
   to-later : (i q : ℕ) → i < length s → member (at s i .output) q ≡ true → (k : ℕ) × (i < k) × (k < length s) × Takes s (at s i .activity) q k
   to-later i q h m =
       let a = at s i .activity in
-      added-taken s below a q (below i h) (member-activity (at s i .output) q (small Output i h) m) (v .well-formed .nothing-left a q) i h (record { activity-is = refl; in-output = m })
+      added-taken s below a q (below i h) (member-activity (at s i .output) q (small Output i h) m) (v .well-formed .nothing-left a q (below i h) (member-activity (at s i .output) q (small Output i h) m)) i h (record { activity-is = refl; in-output = m })
 
   -- an arc joins one that adds to one that takes
   handed : (p q i j : ℕ) → i < length s → j < length s → Adds s p q i → Takes s p q j → Arc net p q

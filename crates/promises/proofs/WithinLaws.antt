@@ -23,7 +23,6 @@ use Rattle.net.proofs.ContainedLaws.{contained-facts, facts-contained}
 use Rattle.sequences.specs.Gain.{SetOf, setFor}
 use Rattle.promises.proofs.GrownLaws.{Grown}
 
--- what is said to pass is orderly
 -- the sets of a valid sequence are on their sides
 set-on-side : (net : Net) (side : Side) (a m : ℕ) (s : List Binding) → Valid net s → SetOf side s a m → OnSide net side a m
 set-on-side net side a m s v f =
@@ -40,20 +39,6 @@ valid-grows net other s c v = record {
   inputs-on-side = λ i l. c .among Input _ _ (v .well-formed .activities-only i l) (v .inputs-on-side i l);
   outputs-on-side = λ i l. c .among Output _ _ (v .well-formed .activities-only i l) (v .outputs-on-side i l);
 }
-
--- what containment says of an orderly net: yes only of one that contains it, and of each orderly one that does
-pub said-contained : (net other : Net) → orderly net ≡ true → containedSays net other ≡ accepted 1 → Contained net other
-unfolding containedSays
-said-contained net other o e = contained-facts net other (yes (orderly other) (contained net other) (rw o at e))
-  where
-    yes : (t u : Bool) → cond t (cond u (accepted 1) (accepted 0)) (refused 2 2) ≡ accepted 1 → u ≡ true
-    yes true true e = refl
-    yes true false e = absurd (let z : _≡_ {A = ℕ} 0 1 = ap (λ (s : Says). s .value) e in omega arith)
-    yes false u e = absurd (let z : _≡_ {A = ℕ} 2 0 = ap (λ (s : Says). s .refusal) e in omega arith)
-
-pub contained-said : (net other : Net) → orderly net ≡ true → orderly other ≡ true → Contained net other → containedSays net other ≡ accepted 1
-unfolding containedSays
-contained-said net other o p c = rw (o, p, facts-contained net other c)
 
 module _ (start end : ℕ) (h : endsOk start end ≡ true) (after : Net) (ss : List (List Binding)) (g : Grown (freshNet start end) after ss)
     (other : Net) (o : Orderly other) (es : other .start ≡ freshNet start end .start) (ee : other .end ≡ freshNet start end .end) where

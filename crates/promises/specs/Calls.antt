@@ -1,13 +1,13 @@
 -- Lists of learning calls (01, "Learning and containment"): each is a learn of words or a follow of a trace, and gets the net
 -- that the call before it returned.
 use Prim.Native.Nat.{ℕ}
-use mathlib.Core.Bool.{cond}
 use mathlib.Core.List.{List, [], _∷_, List·Memᴰ}
 use Rattle.obligations.specs.Sequence.{Binding, bindings}
 use Rattle.net.specs.Refusals.{Says}
+use Rattle.net.specs.Sentences.{Sentence}
 use Rattle.net.specs.declared.Net.{Net}
-use Rattle.sequences.specs.Learn.{learnSays, learnGives}
-use Rattle.sequences.specs.Follow.{followed, followSays, followGives}
+use Rattle.sequences.specs.Learn.{learnRefusals, learnSays, learnGives}
+use Rattle.sequences.specs.Follow.{followed, followRefusals, followSays, followGives}
 use Rattle.sequences.specs.Statements.{Words}
 
 pub data Call : Type 0 where
@@ -22,6 +22,11 @@ wordsOf (follow trace) = trace
 abbrev pub sequenceOf : Call → List Binding
 sequenceOf (learn ws) = bindings ws
 sequenceOf (follow trace) = followed trace
+
+-- the refusals that the papers list for a call, given a net
+abbrev pub refusals : Net → Call → List Sentence
+refusals net (learn ws) = learnRefusals net ws
+refusals net (follow trace) = followRefusals net trace
 
 -- what a call says and the net that it returns, given a net: the definitions that the contracts of learn and follow cite
 abbrev pub says : Net → Call → Says
@@ -43,11 +48,6 @@ grown net (call ∷ calls) = grown (gives net call) calls
 unfoldable pub answers : Net → List Call → List Says
 answers net [] = []
 answers net (call ∷ calls) = says net call ∷ answers (gives net call) calls
-
--- the sequences of the calls that were accepted
-unfoldable pub learned : Net → List Call → List (List Binding)
-learned net [] = []
-learned net (call ∷ calls) = let rest = learned (gives net call) calls in cond (says net call .ok) (sequenceOf call ∷ rest) rest
 
 -- every word of every call is of 32 bits, as every word in a program is
 abbrev pub AllWords : List Call → Type 0

@@ -1,5 +1,5 @@
--- Lists of calls, the refusals as the papers list them, what a replay answers, and the promise made of every list.
+-- Lists of calls, what a replay answers, the promise made of every list, and the marked examples. A reader of 01 needs all.
 pub mod Calls
-pub mod Refusals
 pub mod Replays
 pub mod Promise
+pub mod Marked
