@@ -15,7 +15,7 @@ use Rattle.logfile.specs.declared.RowAnswer.{RowAnswer}
 use Rattle.logfile.specs.declared.RowAnswer.the-variants.{Row, End, Refused}
 use Rattle.logfile.proofs.RowAnswer as row-answer
 use Rattle.logfile.proofs.Theorems.{row-is-trace}
-use Rattle.search.specs.Trace.{TraceFits}
+use Rattle.search.specs.Trace.{TraceWithRoom}
 
 pub given-row : (x : Reading) (s n : ℕ) → rowMeans (Row s n) ≡ readingSays x → (t : List ℕ) × (x ≡ row s t) × (length t ≡ n)
 given-row (row a t) s n e = (t, ap (λ (k : ℕ). row k t) (sym (ap (λ (r : RowSays). r .sessions) e)), sym (ap (λ (r : RowSays). r .entries) e))
@@ -43,7 +43,7 @@ getD-member [] i h = absurd (omega arith)
 getD-member (x ∷ xs) zero h = List·Memᴰ·head refl
 getD-member (x ∷ xs) (suc i) h = List·Memᴰ·tail (getD-member xs i (omega arith))
 
-pub row-fits : (log : List ℕ) (r s : ℕ) (t out : List ℕ) → readRow log r positions ≡ row s t → 192 ≤ length out → TraceFits t out
-row-fits log r s t out e h =
+pub row-with-room : (log : List ℕ) (r s : ℕ) (t : List ℕ) (room : ℕ) → readRow log r positions ≡ row s t → 192 ≤ room → TraceWithRoom t room
+row-with-room log r s t room e h =
     let g = row-is-trace log r positions s t e in
-    record { short = g .few-entries; activities-only = λ i l. g .activities-only _ (getD-member t i l); room = omega (arith, g .few-entries) }
+    record { few-positions = g .few-entries; activities-only = λ i l. g .activities-only _ (getD-member t i l); three-words-each = omega (arith, g .few-entries) }

@@ -6,7 +6,8 @@ use lib.ListN.{take}
 use Rattle.net.specs.declared.Net.{Net}
 use Rattle.logfile.specs.Limits.{logRows}
 use Rattle.logfile.specs.LogFile.{Reading}
-use Rattle.search.specs.Replay.{ReplaySays, replayMeans, checkedSays, CheckedDone}
+use Rattle.search.specs.Replay.{ReplaySays, replayMeans, checkedSays}
+use Rattle.search.specs.Backtrack.{CheckedDone}
 use Rattle.search.specs.declared.ReplayAnswer.{ReplayAnswer}
 use Rattle.report.specs.Report.{rowBudget, rowText, readingText, rowsText}
 use Rattle.report.proofs.AnswerLaws.{front-is}

@@ -1,10 +1,15 @@
--- The statement of specs/Statements.antt: a row's trace is within the limits, so after the check the call says nothing else.
--- Assumes nothing.
+-- The statement of specs/Statements.antt: a row's trace is within the limits, so in a net that passed the check no refusal of replay
+-- holds, and the call says what is said after the check. Assumes nothing.
 use mathlib.Core.Path.{sym, ap, _∙_}
-use Rattle.search.proofs.Theorems.{checked-call}
+use lib.ListN.{length}
+use Rattle.net.specs.Refusals.{Says}
+use Rattle.walks.proofs.Theorems.{said-passes}
+use Rattle.search.proofs.Theorems.{none-holds-replayable, unrefused-call}
 use Rattle.report.specs.Report.{rowBudget, rowText, readingText}
 use Rattle.report.specs.Statements.{RowIsReplay}
-use Rattle.report.proofs.AnswerLaws.{row-fits}
+use Rattle.report.proofs.AnswerLaws.{row-with-room}
 
 pub row-is-replay : RowIsReplay
-row-is-replay net log r s t out ok e room = ap (readingText net r) e ∙ ap (rowText r s) (sym (checked-call net t rowBudget out ok (row-fits log r s t out e room)))
+row-is-replay net arcs log r s t out passed e room =
+    let none = none-holds-replayable net t (length out) .1 (record { net-passes = said-passes net (ap (λ (a : Says). a .ok) passed); trace-with-room = row-with-room log r s t (length out) e room }) in
+    ap (readingText net r) e ∙ ap (rowText r s) (sym (unrefused-call net t rowBudget out none .0))

@@ -13,7 +13,7 @@ use Rattle.net.proofs.OrderlyLaws.{orderly-arrays}
 use Rattle.logfile.specs.Limits.{logRows}
 use Rattle.search.specs.Replay.{replayMeans}
 use Rattle.report.specs.Report.{rowText, rowsText}
-use Rattle.report.proofs.AnswerLaws.{not-row, front-is, row-fits}
+use Rattle.report.proofs.AnswerLaws.{not-row, front-is, row-with-room}
 use Rattle.report.proofs.TextLaws.{rows-done, rows-none}
 use Rattle.report.proofs.StandingLaws.{Standing, standing-start, standing-row, standing-none, standing-more}
 use Rattle.report.proofs.RowLaws.{row-line}
@@ -86,7 +86,7 @@ replay-lent-requires c κs =
     let k = c .before .before .before .before .before .before .before .before .given .given in
     let g = standing-row (now (s .text)) (l .row) (l .cursor) (l .trace) (l .inv .0) (x .result) (x .last .1 .1 .0) (x .ensures) (k .0 .0) (k .0 .1 .0) (k .1) in
     let o = c .before .before .before .before .before .before .before .before .before .before .before .before .before .before .before .before .before .before .pre .0 in
-    ((orderly-arrays (s .t1) o Input, orderly-arrays (s .t1) o Output), rw (front-is (g .entries) (l .trace) (x .last .1 .1 .0) (k .0 .1 .0) (g .in-front) (g .as-long)) (row-fits (now (s .text)) (l .row) (k .0 .0) (g .entries) (l .bindings) (g .is-row) (omega (arith, l .inv .1))))
+    ((orderly-arrays (s .t1) o Input, orderly-arrays (s .t1) o Output), rw (front-is (g .entries) (l .trace) (x .last .1 .1 .0) (k .0 .1 .0) (g .in-front) (g .as-long)) (row-with-room (now (s .text)) (l .row) (k .0 .0) (g .entries) (length (l .bindings)) (g .is-row) (omega (arith, l .inv .1))))
 
 write-row-requires : tie.Need-write-row-requires Inv-loop μ-loop
 write-row-requires c κs =
