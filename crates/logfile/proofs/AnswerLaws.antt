@@ -2,7 +2,7 @@
 use Prim.Native.Nat.{ℕ, _+_, _≤_}
 use mathlib.Core.Path.{_≡_, refl, sym, ap, _∙_}
 use mathlib.Core.Bool.{Bool, true, false, _&&_, cond}
-use mathlib.Core.List.{List, [], _∷_, _++_}
+use mathlib.Core.List.{List, [], _∷_, _++_, List·Memᴰ}
 use native.Mathlib.Omega.{arith}
 use borrow.Author.Tests.{leb-true}
 use lib.Dec.{leb}
@@ -13,10 +13,13 @@ use Rattle.net.specs.Refusals.{outside-limits, number-form}
 use Rattle.text.specs.Fields.{comma, split}
 use Rattle.text.specs.Decimal.{value, allNumbers, values}
 use Rattle.text.specs.Members.{highest}
-use Rattle.logfile.specs.Limits.{logRows}
+use Rattle.text.proofs.DecimalLaws.{number-most, values-most}
+use Rattle.logfile.specs.Limits.{logRows, mostSessions}
 use Rattle.logfile.specs.LogFile.{Reading, row, end, fault, isSessions, entries, readFields, readParts, readLine, past, rowMeans, readingSays, readingLeaves, RowRead}
+use Rattle.logfile.specs.Refusals.{rowText}
 use Rattle.logfile.specs.Row.{answerOf, isRow, Filled, IsRow, second}
 use Rattle.logfile.specs.declared.RowAnswer.{RowAnswer}
+use Rattle.logfile.proofs.PrintLaws.{sessions-number, row-printed}
 
 -- ---- a line that is a row
 
@@ -57,6 +60,18 @@ line-row n l s t = go (split comma l) refl
     go (f ∷ []) e r = let z : _≡_ {A = ℕ} 0 1 = cc in absurd (omega arith)
     go (f ∷ g ∷ []) e r = told f g e (isSessions f && allNumbers highest (entries g)) (leb (length (entries g)) positions && leb n (logRows + 1)) refl refl r
     go (f ∷ g ∷ h ∷ fs) e r = let z : _≡_ {A = ℕ} 0 1 = cc in absurd (omega arith)
+
+-- it is the print of its sessions and trace, which are within their limits
+pub line-printed : {n : ℕ} {l : List ℕ} {s : ℕ} {t : List ℕ} → LineRow n l s t → l ≡ rowText s t
+line-printed {l} r = rw (r .sessions-are, r .trace-is) (row-printed l (r .first) (r .trace) (r .fields) (r .sessions-right) (r .numbers))
+
+pub line-sessions : {n : ℕ} {l : List ℕ} {s : ℕ} {t : List ℕ} → LineRow n l s t → (1 ≤ s) × (s ≤ mostSessions)
+line-sessions r =
+    let q = sessions-number (r .first) (r .sessions-right) in
+    (omega (arith, r .sessions-are, q .1), omega (arith, r .sessions-are, number-most mostSessions (r .first) (q .0)))
+
+pub line-entries : {n : ℕ} {l : List ℕ} {s : ℕ} {t : List ℕ} → LineRow n l s t → (k : ℕ) → List·Memᴰ k t → k ≤ highest
+line-entries r k m = values-most highest (entries (r .trace)) (r .numbers) k (rw (r .trace-is) at m)
 
 -- it can be written to a buffer of 64 words, and what is then there is its trace
 pub line-is-row : {n : ℕ} {l : List ℕ} {s : ℕ} {t : List ℕ} (room : ℕ) → LineRow n l s t → positions ≤ room → IsRow l room

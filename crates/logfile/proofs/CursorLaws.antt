@@ -7,16 +7,23 @@ use mathlib.Core.List.{List, [], _∷_}
 use native.Mathlib.Nat.{add-zero, zero-add, suc-add}
 use native.Mathlib.Omega.{arith}
 use borrow.Author.Tests.{lt-ltb, ltb-true}
-use lib.Dec.{ltb}
-use lib.ListN.{length, drop}
+use lib.Dec.{leb, ltb}
+use lib.ListN.{length, getD, drop}
 use lib.Seq.{slice}
+use Rattle.obligations.specs.Limits.{positions}
 use Rattle.obligations.proofs.BoolLaws.{and-left}
 use Rattle.obligations.proofs.SetLaws.{lt-or-le}
 use Rattle.text.specs.Bytes.{sameBytes}
 use Rattle.text.specs.Lines.{lines, lineEnd, nextLine}
-use Rattle.net.specs.Refusals.{outside-limits, line-form}
-use Rattle.logfile.specs.LogFile.{Reading, row, end, fault, readLine, past, rowAfter, logHeader, afterHeader, sizesOk, readRow}
-use Rattle.logfile.specs.Cursor.{start, fromLine, begun, within, readNext, rowStart, cursorAfter, Reached, at-start, one-more}
+use Rattle.text.specs.Fields.{comma, split}
+use Rattle.text.specs.Decimal.{value, allNumbers, values}
+use Rattle.text.specs.Members.{highest}
+use Rattle.net.specs.Refusals.{outside-limits, line-form, number-form}
+use Rattle.logfile.specs.Limits.{logRows}
+use Rattle.logfile.specs.LogFile.{Reading, row, end, fault, isSessions, entries, readFields, readParts, readLine, past, rowAfter, logHeader, afterHeader, sizesOk, readRow}
+use Rattle.logfile.specs.Refusals.{LineIs}
+use Rattle.logfile.specs.Cursor.{start, fromLine, within, readNext, rowStart, cursorAfter, Reached, at-start, one-more}
+use Rattle.logfile.specs.Row.{begun}
 use Rattle.logfile.specs.declared.Cursor.{Cursor}
 use Rattle.logfile.specs.declared.Begun.{Begun}
 use Rattle.logfile.specs.declared.Begun.the-variants.{At, Differs}
@@ -29,6 +36,9 @@ end-no-row e = let z : _≡_ {A = ℕ} 0 1 = cc in omega arith
 fault-no-row : {n p s : ℕ} {t : List ℕ} → fault n p ≡ row s t → ⊥
 fault-no-row e = let z : _≡_ {A = ℕ} 0 1 = cc in omega arith
 
+end-no-fault : {n p : ℕ} → end ≡ fault n p → ⊥
+end-no-fault e = let z : _≡_ {A = ℕ} 0 1 = cc in omega arith
+
 past-row : (x y : Reading) (s : ℕ) (t : List ℕ) → past x y ≡ row s t → y ≡ row s t
 past-row (row a b) y s t e = e
 past-row end y s t e = absurd (end-no-row e)
@@ -36,31 +46,80 @@ past-row (fault n p) y s t e = absurd (fault-no-row e)
 
 -- ---- the line of a row with k rows before it
 
-pub row-line : (n k : ℕ) (ls : List (List ℕ)) (s : ℕ) (t : List ℕ) → rowAfter n k ls ≡ row s t → (l : List ℕ) × (readLine (n + k) l ≡ row s t)
+row-line : (n k : ℕ) (ls : List (List ℕ)) (s : ℕ) (t : List ℕ) → rowAfter n k ls ≡ row s t → (k < length ls) × (readLine (n + k) (getD ls k []) ≡ row s t)
 unfolding rowAfter
 row-line n k [] s t e = absurd (end-no-row e)
-row-line n zero (l ∷ ls) s t e = (l, rw (add-zero n) e)
+row-line n zero (l ∷ ls) s t e = (omega arith, rw (add-zero n) e)
 row-line n (suc k) (l ∷ ls) s t e =
     let w = row-line (n + 1) k ls s t (past-row (readLine n l) (rowAfter (n + 1) k ls) s t e) in
     let q : n + 1 + k ≡ n + suc k = omega arith in
-    (w .0, rw q at (w .1))
+    (omega (arith, w .0), rw q at (w .1))
 
--- a row that is given was asked for, with a text and a buffer that fit, and after the right header
-pub row-lines : (text : List ℕ) (r room s : ℕ) (t : List ℕ) → readRow text r room ≡ row s t → (1 ≤ r) × (ls : List (List ℕ)) × (rowAfter 2 (r - 1) ls ≡ row s t)
-unfolding readRow
-row-lines text r room s t = go (ltb 0 r && sizesOk text room) refl
+-- "end" is said of no line, and so after the last
+line-no-end : (n : ℕ) (l : List ℕ) → readLine n l ≡ end → ⊥
+unfolding readLine readFields
+line-no-end n l = go (split comma l)
   where
-    header : (ls : List (List ℕ)) → afterHeader (r - 1) ls ≡ row s t → (ls′ : List (List ℕ)) × (rowAfter 2 (r - 1) ls′ ≡ row s t)
-    header [] e = absurd (fault-no-row e)
-    header (h ∷ ls) e = right (sameBytes h logHeader) e
-      where
-        right : (b : Bool) → cond b (rowAfter 2 (r - 1) ls) (fault line-form 1) ≡ row s t → (ls′ : List (List ℕ)) × (rowAfter 2 (r - 1) ls′ ≡ row s t)
-        right true e = (ls, e)
-        right false e = absurd (fault-no-row e)
+    told : (a b : Bool) (s : ℕ) (t : List ℕ) → cond a (cond b (row s t) (fault outside-limits n)) (fault number-form n) ≡ end → ⊥
+    told true true s t e = end-no-row (sym e)
+    told true false s t e = end-no-fault (sym e)
+    told false b s t e = end-no-fault (sym e)
 
-    go : (b : Bool) → ltb 0 r && sizesOk text room ≡ b → cond b (afterHeader (r - 1) (lines text)) (fault outside-limits 0) ≡ row s t → (1 ≤ r) × (ls : List (List ℕ)) × (rowAfter 2 (r - 1) ls ≡ row s t)
-    go true p e = let w = header (lines text) e in (ltb-true 0 r (and-left (ltb 0 r) (sizesOk text room) p), w .0, w .1)
-    go false p e = absurd (fault-no-row e)
+    go : (fs : List (List ℕ)) → readParts n fs ≡ end → ⊥
+    go [] e = end-no-fault (sym e)
+    go (f ∷ []) e = end-no-fault (sym e)
+    go (f ∷ g ∷ []) e = told (isSessions f && allNumbers highest (entries g)) (leb (length (entries g)) positions && leb n (logRows + 1)) (value f) (values (entries g)) e
+    go (f ∷ g ∷ h ∷ fs) e = end-no-fault (sym e)
+
+no-line : (n k : ℕ) (ls : List (List ℕ)) → rowAfter n k ls ≡ end → length ls ≤ k
+unfolding rowAfter
+no-line n k [] e = omega arith
+no-line n zero (l ∷ ls) e = absurd (line-no-end n l e)
+no-line n (suc k) (l ∷ ls) e = go (readLine n l) (line-no-end n l) (no-line (n + 1) k ls) e
+  where
+    go : (x : Reading) → (x ≡ end → ⊥) → (rowAfter (n + 1) k ls ≡ end → length ls ≤ k) → past x (rowAfter (n + 1) k ls) ≡ end → suc (length ls) ≤ suc k
+    go (row s t) f ih e = omega (arith, ih e)
+    go end f ih e = absurd (f refl)
+    go (fault m p) f ih e = absurd (end-no-fault (sym e))
+
+-- what isn't refused was asked for, with a text and a buffer that fit, and is read from the rows after the right header
+record FromRows (text : List ℕ) (r : ℕ) (x : Reading) : Type 0 where
+  asked : 1 ≤ r
+  header : List ℕ
+  rows : List (List ℕ)
+  parts : lines text ≡ header ∷ rows
+  reads : rowAfter 2 (r - 1) rows ≡ x
+
+module _ (text : List ℕ) (r room : ℕ) where
+  from-rows : (x : Reading) → ((n p : ℕ) → x ≡ fault n p → ⊥) → readRow text r room ≡ x → FromRows text r x
+  unfolding readRow
+  from-rows x f = go (ltb 0 r && sizesOk text room) refl
+    where
+      right : (b : Bool) (ls : List (List ℕ)) → cond b (rowAfter 2 (r - 1) ls) (fault line-form 1) ≡ x → rowAfter 2 (r - 1) ls ≡ x
+      right true ls e = e
+      right false ls e = absurd (f line-form 1 (sym e))
+
+      rest : 1 ≤ r → (ls : List (List ℕ)) → lines text ≡ ls → afterHeader (r - 1) ls ≡ x → FromRows text r x
+      rest a [] q e = absurd (f line-form 1 (sym e))
+      rest a (h ∷ ls) q e = record { asked = a; header = h; rows = ls; parts = q; reads = right (sameBytes h logHeader) ls e }
+
+      go : (b : Bool) → ltb 0 r && sizesOk text room ≡ b → cond b (afterHeader (r - 1) (lines text)) (fault outside-limits 0) ≡ x → FromRows text r x
+      go true p e = rest (ltb-true 0 r (and-left (ltb 0 r) (sizesOk text room) p)) (lines text) refl e
+      go false p e = absurd (f outside-limits 0 (sym e))
+
+  -- row r is on line r + 1, and "end" is said only if there is no such line
+  pub row-on-line : (s : ℕ) (t : List ℕ) → readRow text r room ≡ row s t → (l : List ℕ) × LineIs text (r + 1) l × (readLine (r + 1) l ≡ row s t)
+  row-on-line s t e =
+      let w = from-rows (row s t) (λ n p q. fault-no-row (sym q)) e in
+      let v = row-line 2 (r - 1) (w .rows) s t (w .reads) in
+      let n : 2 + (r - 1) ≡ r + 1 = omega arith in
+      let m : r + 1 - 1 ≡ suc (r - 1) = omega arith in
+      (getD (w .rows) (r - 1) [], record { low = omega arith; high = omega (arith, v .0, ap length (w .parts)); there = rw (w .parts, m) }, rw n at (v .1))
+
+  pub end-no-line : readRow text r room ≡ end → (l : List ℕ) → LineIs text (r + 1) l → ⊥
+  end-no-line e l at =
+      let w = from-rows end (λ n p. end-no-fault) e in
+      omega (arith, no-line 2 (r - 1) (w .rows) (w .reads), ap length (w .parts))
 
 -- ---- a row that isn't given, and those after it
 

@@ -2,16 +2,16 @@
 -- of the lines from there on. Assumes nothing.
 use Prim.Native.Nat.{ℕ, suc, _+_, _-_, _≤_, _<_, max}
 use mathlib.Core.Path.{_≡_, refl, ap, _∙_}
-use mathlib.Core.Logic.{⊎-elim}
+use mathlib.Core.Logic.{_↔_, ⊎-elim}
 use mathlib.Core.Bool.{Bool, true, false, and-false, cond}
 use mathlib.Core.List.{List, []}
 use native.Mathlib.Omega.{arith}
-use borrow.Author.Tests.{leb-true, lt-ltb, le-ltb, ltb-true, ltb-false}
+use borrow.Author.Tests.{leb-true, le-leb, lt-ltb, le-ltb, ltb-true, ltb-false}
 use lib.Dec.{leb, ltb}
 use lib.ListN.{length, drop, drop-of-length-le}
 use lib.Seq.{slice, take-all}
 use Rattle.obligations.specs.Limits.{positions}
-use Rattle.obligations.proofs.BoolLaws.{and-right, false-not-true}
+use Rattle.obligations.proofs.BoolLaws.{and-left, and-right, and-both, false-not-true}
 use Rattle.obligations.proofs.SetLaws.{lt-or-le}
 use Rattle.net.specs.Refusals.{outside-limits, line-form}
 use Rattle.text.specs.Bytes.{sameBytes}
@@ -19,8 +19,8 @@ use Rattle.text.specs.Lines.{lines, lineEnd, nextLine}
 use Rattle.text.proofs.LineLaws.{lines-step, lines-end}
 use Rattle.logfile.specs.Limits.{logBytes, logRows}
 use Rattle.logfile.specs.LogFile.{Reading, row, end, fault, readLine, past, rowAfter, logHeader, afterHeader, sizesOk, readRow}
-use Rattle.logfile.specs.Row.{answerOf, isRow}
-use Rattle.logfile.specs.Cursor.{fromLine, begun, within, readNext, rowStart, cursorAfter}
+use Rattle.logfile.specs.Row.{begun, answerOf, isRow}
+use Rattle.logfile.specs.Cursor.{fromLine, within, readNext, rowStart, cursorAfter}
 use Rattle.logfile.specs.declared.Cursor.{Cursor}
 use Rattle.logfile.specs.declared.Begun.the-variants.{At, Differs}
 use Rattle.logfile.proofs.AnswerLaws.{line-row, stays-past}
@@ -102,9 +102,17 @@ pub rows-past : (s : List ℕ) (i n e k : ℕ) → i < length s → e ≡ lineEn
 unfolding rowAfter
 rows-past s i n e k h q = rw (lines-step s i e (nextLine s e) h q refl)
 
-pub sizes-room : (text : List ℕ) (room : ℕ) → sizesOk text room ≡ true → positions ≤ room
+-- ---- the sizes
+
+pub sizes-exactly : (text : List ℕ) (room : ℕ) → (sizesOk text room ≡ true) ↔ ((length text ≤ logBytes) × (positions ≤ room))
 unfolding sizesOk
-sizes-room text room f = leb-true positions room (and-right (leb (length text) logBytes) (leb positions room) f)
+sizes-exactly text room = (
+  (λ f. (leb-true (length text) logBytes (and-left (leb (length text) logBytes) (leb positions room) f), leb-true positions room (and-right (leb (length text) logBytes) (leb positions room) f))),
+  (λ w. and-both (le-leb (length text) logBytes (w .0)) (le-leb positions room (w .1))),
+)
+
+pub sizes-room : (text : List ℕ) (room : ℕ) → sizesOk text room ≡ true → positions ≤ room
+sizes-room text room f = sizes-exactly text room .0 f .1
 
 -- ---- reading by number
 

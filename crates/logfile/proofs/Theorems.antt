@@ -1,39 +1,30 @@
 -- The statements of specs/Statements.antt. Assumes nothing.
-use Prim.Native.Nat.{ℕ, _+_, _-_, _≤_}
-use mathlib.Core.List.{List}
+use Prim.Native.Nat.{_+_}
 use native.Mathlib.Omega.{arith}
-use borrow.Author.Tests.{ltb-true}
-use lib.Dec.{ltb}
 use lib.ListN.{length-map}
-use Rattle.obligations.proofs.BoolLaws.{and-left, and-right}
-use Rattle.text.specs.Decimal.{value, isNumber}
-use Rattle.text.proofs.DecimalLaws.{number-most, values-most}
-use Rattle.logfile.specs.Limits.{mostSessions}
-use Rattle.logfile.specs.LogFile.{isSessions, entries}
-use Rattle.logfile.specs.Statements.{RowIsTrace, CursorReadsNext, LaterSame}
-use Rattle.logfile.proofs.AnswerLaws.{LineRow, line-row}
+use Rattle.text.specs.Decimal.{value}
+use Rattle.logfile.specs.LogFile.{entries}
+use Rattle.logfile.specs.Statements.{RowListed, RowSaid, RowIsTrace, CursorReadsNext, LaterSame}
+use Rattle.logfile.proofs.AnswerLaws.{line-row, line-sessions, line-entries}
 use Rattle.logfile.proofs.CursorLaws as cursor
+use Rattle.logfile.proofs.RefusalLaws as refusals
 
--- the number of sessions of a line that is a row
-sessions-range : (n : ℕ) (l : List ℕ) (s : ℕ) (t : List ℕ) → LineRow n l s t → (1 ≤ s) × (s ≤ mostSessions)
-unfolding isSessions
-sessions-range n l s t w =
-    let a = and-left (isNumber mostSessions (w .first)) (ltb 0 (value (w .first))) (w .sessions-right) in
-    let b = and-right (isNumber mostSessions (w .first)) (ltb 0 (value (w .first))) (w .sessions-right) in
-    (omega (arith, w .sessions-are, ltb-true 0 (value (w .first)) b), omega (arith, w .sessions-are, number-most mostSessions (w .first) a))
+pub row-listed : RowListed
+row-listed = refusals.row-listed
+
+pub row-said : RowSaid
+row-said text r room = (refusals.row-said text r room, refusals.end-said text r room)
 
 pub row-is-trace : RowIsTrace
 row-is-trace text r room s t e =
-    let g = cursor.row-lines text r room s t e in
-    let h = cursor.row-line 2 (r - 1) (g .1) s t (g .2) in
-    let w = line-row (2 + (r - 1)) (h .0) s t (h .1) in
-    let q = sessions-range (2 + (r - 1)) (h .0) s t w in
+    let h = cursor.row-on-line text r room s t e in
+    let w = line-row (r + 1) (h .0) s t (h .2) in
     record {
-      few-rows = omega (arith, g .0, w .line-low);
-      some-sessions = q .0;
-      few-sessions = q .1;
+      few-rows = omega (arith, w .line-low);
+      some-sessions = line-sessions w .0;
+      few-sessions = line-sessions w .1;
       few-entries = rw (w .trace-is) (omega (arith, w .few, length-map (entries (w .trace)) value));
-      activities-only = λ k m. omega (arith, values-most 31 (entries (w .trace)) (w .numbers) k (rw (w .trace-is) at m));
+      activities-only = λ k m. omega (arith, line-entries w k m);
     }
 
 pub cursor-reads-next : CursorReadsNext

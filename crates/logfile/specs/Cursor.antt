@@ -5,13 +5,9 @@ use mathlib.Core.Bool.{cond}
 use mathlib.Core.List.{List}
 use lib.Dec.{ltb}
 use lib.ListN.{length, drop}
-use lib.Seq.{slice}
-use Rattle.text.specs.Bytes.{sameBytes}
 use Rattle.text.specs.Lines.{lines, lineEnd, nextLine}
 use Rattle.net.specs.Refusals.{outside-limits}
-use Rattle.logfile.specs.LogFile.{Reading, row, end, fault, logHeader, rowAfter, afterHeader, sizesOk, RowRead}
-use Rattle.logfile.specs.declared.Begun.{Begun}
-use Rattle.logfile.specs.declared.Begun.the-variants.{At, Differs}
+use Rattle.logfile.specs.LogFile.{Reading, row, end, fault, unlessOn, rowAfter, afterHeader, sizesOk, RowRead}
 use Rattle.logfile.specs.declared.Cursor.{Cursor}
 use Rattle.logfile.specs.declared.NextRow.{NextRow}
 
@@ -28,12 +24,7 @@ within text c = min (c .at) (length text)
 
 -- the row at a cursor
 unfoldable pub readNext : List ℕ → Cursor → ℕ → Reading
-readNext text c room = cond (sizesOk text room) (fromLine (c .line) 0 (lines (drop (within text c) text))) (fault outside-limits 0)
-
--- where the first row's line starts, and its number, for a reader at line n, which starts at i: past the header, if that
--- is the line
-unfoldable pub begun : List ℕ → ℕ → ℕ → Begun
-begun text i n = cond (ltb 1 n) (At i n) (cond (sameBytes (slice i (lineEnd text i) text) logHeader) (At (nextLine text (lineEnd text i)) 2) Differs)
+readNext text c room = unlessOn (sizesOk text room) outside-limits 0 (fromLine (c .line) 0 (lines (drop (within text c) text)))
 
 -- where the row at a cursor starts: past the header, if that is the cursor's line
 unfoldable pub rowStart : List ℕ → Cursor → ℕ

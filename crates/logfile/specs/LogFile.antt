@@ -23,6 +23,10 @@ pub data Reading : Type 0 where
   end : Reading
   fault : ℕ → ℕ → Reading
 
+-- the rest if the test passes, else the refusal `number` on this line
+abbrev pub unlessOn : Bool → ℕ → ℕ → Reading → Reading
+unlessOn test number line rest = cond test rest (fault number line)
+
 -- ---- a row's line
 
 -- sessions are a number from 1 to 1,000,000
@@ -38,9 +42,9 @@ entries (b ∷ s) = split space (b ∷ s)
 -- last row's
 unfoldable pub readFields : ℕ → List ℕ → List ℕ → Reading
 readFields n sessions trace =
-    cond (isSessions sessions && allNumbers highest (entries trace))
-    (cond (leb (length (entries trace)) positions && leb n (logRows + 1)) (row (value sessions) (values (entries trace))) (fault outside-limits n))
-    (fault number-form n)
+    unlessOn (isSessions sessions && allNumbers highest (entries trace)) number-form n
+    (unlessOn (leb (length (entries trace)) positions && leb n (logRows + 1)) outside-limits n
+    (row (value sessions) (values (entries trace))))
 
 -- line n: 13 unless it has one comma, and so two fields
 abbrev pub readParts : ℕ → List (List ℕ) → Reading
@@ -73,7 +77,7 @@ logHeader = 115 ∷ 101 ∷ 115 ∷ 115 ∷ 105 ∷ 111 ∷ 110 ∷ 115 ∷ comm
 -- the row with k rows before it, after the header on line 1
 abbrev pub afterHeader : ℕ → List (List ℕ) → Reading
 afterHeader k [] = fault line-form 1
-afterHeader k (h ∷ ls) = cond (sameBytes h logHeader) (rowAfter 2 k ls) (fault line-form 1)
+afterHeader k (h ∷ ls) = unlessOn (sameBytes h logHeader) line-form 1 (rowAfter 2 k ls)
 
 -- the text's length and the buffer's are as they have to be
 unfoldable pub sizesOk : List ℕ → ℕ → Bool
@@ -81,7 +85,7 @@ sizesOk text room = leb (length text) logBytes && leb positions room
 
 -- row r of a log, counted from 1, for a buffer of so many words
 unfoldable pub readRow : List ℕ → ℕ → ℕ → Reading
-readRow text r room = cond (ltb 0 r && sizesOk text room) (afterHeader (r - 1) (lines text)) (fault outside-limits 0)
+readRow text r room = unlessOn (ltb 0 r && sizesOk text room) outside-limits 0 (afterHeader (r - 1) (lines text))
 
 -- ---- what an answer says, and what the buffer holds then
 

@@ -1,17 +1,28 @@
--- What the parts of the row reader answer.
+-- What the parts of the readers answer: definitions of which only contracts of private functions speak.
 use Prim.Native.Nat.{ℕ, _≤_}
 use mathlib.Core.Path.{_≡_}
 use mathlib.Core.Bool.{Bool, true, false, cond}
 use mathlib.Core.List.{List, [], _∷_, _++_}
+use lib.Dec.{ltb}
 use lib.ListN.{length, drop}
+use lib.Seq.{slice}
+use Rattle.text.specs.Bytes.{sameBytes}
+use Rattle.text.specs.Lines.{lineEnd, nextLine}
 use Rattle.text.specs.Fields.{comma, split}
 use Rattle.text.specs.Decimal.{allNumbers, values}
 use Rattle.text.specs.Members.{highest}
-use Rattle.logfile.specs.LogFile.{Reading, row, end, fault, entries}
+use Rattle.logfile.specs.LogFile.{Reading, row, end, fault, entries, logHeader}
+use Rattle.logfile.specs.declared.Begun.{Begun}
+use Rattle.logfile.specs.declared.Begun.the-variants.{At, Differs}
 use Rattle.logfile.specs.declared.RowAnswer.{RowAnswer}
 use Rattle.logfile.specs.declared.RowAnswer.the-variants as answer
 use Rattle.logfile.specs.declared.row.Entries.{Entries}
 use Rattle.logfile.specs.declared.row.Entries.the-variants as counted
+
+-- where the first row's line starts, and its number, for a reader at line n, which starts at i: past the header, if that
+-- is the line
+unfoldable pub begun : List ℕ → ℕ → ℕ → Begun
+begun text i n = cond (ltb 1 n) (At i n) (cond (sameBytes (slice i (lineEnd text i) text) logHeader) (At (nextLine text (lineEnd text i)) 2) Differs)
 
 -- the answer for what was read
 abbrev pub answerOf : Reading → RowAnswer

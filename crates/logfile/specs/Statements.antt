@@ -1,13 +1,33 @@
 -- What is proved of the definitions. The proofs are in proofs/Theorems.antt.
-use Prim.Native.Nat.{ℕ, suc, _≤_, _<_}
+use Prim.Native.Nat.{ℕ, suc, _+_, _≤_, _<_}
 use mathlib.Core.Path.{_≡_}
+use mathlib.Core.Logic.{_↔_}
 use mathlib.Core.List.{List, List·Memᴰ}
 use lib.ListN.{length}
 use Rattle.obligations.specs.Limits.{activities, positions}
+use Rattle.net.specs.Sentences.{NoneHolds, AsListedByLine}
 use Rattle.logfile.specs.Limits.{logRows, mostSessions}
-use Rattle.logfile.specs.LogFile.{row, readRow}
+use Rattle.logfile.specs.LogFile.{row, end, readRow, rowMeans, readingSays}
+use Rattle.logfile.specs.Refusals.{LineIs, rowText, rowRefusals}
 use Rattle.logfile.specs.Cursor.{readNext, Reached}
 use Rattle.logfile.specs.declared.Cursor.{Cursor}
+use Rattle.logfile.specs.declared.RowAnswer.the-variants.{Refused}
+
+-- reading a row is refused exactly as its sentences are listed, by line, and else not refused
+abbrev pub RowListed : Type 0
+RowListed = (text : List ℕ) (r room : ℕ) → AsListedByLine (λ n p. rowMeans (Refused n p)) (rowRefusals text r room) (readingSays (readRow text r room))
+
+-- no sentence holds
+abbrev pub NotRefused : List ℕ → ℕ → ℕ → Type 0
+NotRefused text r room = (line : ℕ) → NoneHolds (rowRefusals text r room line)
+
+-- row r is read as k sessions and the trace ks exactly if no sentence holds and line r + 1 is their print; "end" is said exactly
+-- if no sentence holds and there is no such line
+abbrev pub RowSaid : Type 0
+RowSaid =
+    (text : List ℕ) (r room : ℕ)
+    → ((k : ℕ) (ks : List ℕ) → (readRow text r room ≡ row k ks) ↔ (NotRefused text r room × LineIs text (r + 1) (rowText k ks)))
+    × ((readRow text r room ≡ end) ↔ (NotRefused text r room × ((l : List ℕ) → LineIs text (r + 1) l → ⊥)))
 
 -- whatever is read as row r is a trace of at most 64 activities, of 1 to 1,000,000 sessions, and r is at most 1,000
 pub record Given (r s : ℕ) (t : List ℕ) : Type 0 where

@@ -9,8 +9,8 @@ use denote.Ref.{now}
 use lib.ListN.{length}
 use lib.Seq.{slice}
 use Rattle.logfile.specs.LogFile.{readLine, sizesOk}
-use Rattle.logfile.specs.Row.{answerOf, isRow}
-use Rattle.logfile.specs.Cursor.{begun, within, readNext}
+use Rattle.logfile.specs.Row.{begun, answerOf, isRow}
+use Rattle.logfile.specs.Cursor.{within, readNext}
 use Rattle.logfile.proofs.AnswerLaws.{line-row, line-is-row, line-filled, row-given, read-stays, read-given}
 use Rattle.logfile.proofs.FileLaws.{Passed, begun-passed, sizes-room, next-unfit, next-differs, next-end, next-here, cursor-stays, cursor-goes}
 use Rattle.logfile.proofs.next_row.Statement.{statement}
