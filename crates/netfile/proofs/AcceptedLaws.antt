@@ -8,28 +8,30 @@ use mathlib.Core.List.{List, [], _∷_, List·Memᴰ·head, List·Memᴰ·tail, 
 use lib.Dec.{leb, eqb}
 use lib.ListN.{length}
 use borrow.Author.Tests.{eqb-false}
-use Rattle.obligations.proofs.BoolLaws.{false-not-true}
+use Rattle.obligations.proofs.BoolLaws.{true-or-false, false-not-true}
 use Rattle.text.specs.Bytes.{sameBytes}
 use Rattle.text.specs.Lines.{lines}
 use Rattle.text.proofs.ByteLaws.{same-equal}
-use Rattle.net.specs.Refusals.{accepted, outside-limits, line-form, bad-ends}
+use Rattle.net.specs.Refusals.{Says, accepted, outside-limits, line-form, bad-ends}
 use Rattle.net.specs.Sides.{OnSide}
 use Rattle.net.specs.Orderly.{endsOk, orderly}
 use Rattle.net.specs.Fresh.{freshNet}
 use Rattle.net.specs.declared.Net.{Net}
 use Rattle.net.specs.declared.Side.{Side}
 use Rattle.net.proofs.OrderlyLaws.{facts-ends}
-use Rattle.net.proofs.FreshLaws.{fresh-orderly}
+use Rattle.net.proofs.FreshLaws.{fresh-start, fresh-end, fresh-on-side, fresh-orderly}
 use Rattle.net.proofs.PutLaws.{put-start, put-end, put-on-side}
 use Rattle.netfile.specs.Limits.{netBytes}
 use Rattle.netfile.specs.NetFile.{netHeader, startWord, endWord, readEnd, readRow, rowSays, rowGives, Reading, refusedAt, readRows, afterEnd, fromEnd, afterStart, fromStart, fromHeader, readNet}
-use Rattle.netfile.specs.Statements.{HasRow}
+use Rattle.netfile.specs.Refusals.{IsRow}
+use Rattle.netfile.specs.Statements.{HasRow, SaidBy}
 use Rattle.netfile.specs.declared.line.EndLine.{EndLine}
 use Rattle.netfile.specs.declared.line.EndLine.the-variants.{Activity, Refused}
 use Rattle.netfile.specs.declared.line.RowLine.{RowLine}
 use Rattle.netfile.specs.declared.line.RowLine.the-variants as row-line
 use Rattle.netfile.proofs.RowLaws.{end-activity}
-use Rattle.netfile.proofs.PutRowLaws.{row-orderly}
+use Rattle.netfile.proofs.PutRowLaws.{row-orderly, same-empty}
+use Rattle.netfile.proofs.LineReadLaws.{start-exactly, end-exactly, RowSaid, row-form, row-number, set-row, row-said, row-exactly}
 
 -- the net of a refused reading
 pub refused-orderly : orderly (freshNet 0 1) ≡ true
@@ -103,14 +105,26 @@ rows-hold n net (l ∷ ls) h side a m =
     let t = taken n net l ls h in
     let f = rows-hold (n + 1) (rowGives net (readRow l)) ls (t .others) side a m in
     let g = row-holds net (readRow l) (t .first) side a m in (
-      (λ i. ⊎-elim (λ j. ⊎-elim (λ k. inl k) (λ e. inr (record { line = l; there = List·Memᴰ·head refl; is-row = e })) (g .0 j)) (λ r. inr (record { line = r .line; there = List·Memᴰ·tail (r .there); is-row = r .is-row })) (f .0 (rw (t .all) at i))),
+      (λ i. ⊎-elim (λ j. ⊎-elim (λ k. inl k) (λ e. inr (record { line = l; there = List·Memᴰ·head refl; is-row = row-exactly l side a m .0 e })) (g .0 j)) (λ r. inr (record { line = r .line; there = List·Memᴰ·tail (r .there); is-row = r .is-row })) (f .0 (rw (t .all) at i))),
       (λ w. rw (t .all) (f .1 (⊎-elim (λ k. inl (g .1 (inl k))) (λ r. later (g .1) r (List·Memᴰ·cases-cons (r .there))) w))),
     )
   where
     later : ((OnSide net side a m ⊎ (readRow l ≡ row-line.Set side a m)) → OnSide (rowGives net (readRow l)) side a m) → (r : HasRow (l ∷ ls) side a m) → (r .line ≡ l) ⊎ List·Memᴰ (r .line) ls
         → OnSide (rowGives net (readRow l)) side a m ⊎ HasRow ls side a m
-    later g r (inl e) = inl (g (inr (ap readRow (sym e) ∙ r .is-row)))
+    later g r (inl e) = inl (g (inr (ap readRow (sym e) ∙ row-exactly (r .line) side a m .1 (r .is-row))))
     later g r (inr u) = inr (record { line = r .line; there = u; is-row = r .is-row })
+
+-- each line of rows that were accepted is a row
+pub rows-are-rows : (n : ℕ) (net : Net) (ls : List (List ℕ)) → readRows n net ls .says .ok ≡ true → (line : List ℕ) → List·Memᴰ line ls → (side : Side) × (a : ℕ) × (m : ℕ) × IsRow side a m line
+rows-are-rows n net [] h line i = absurd (List·Memᴰ·not-nil i)
+rows-are-rows n net (l ∷ ls) h line i =
+    let t = taken n net l ls h in
+    ⊎-elim (λ e. rw e (is-row (row-said l) (t .first))) (rows-are-rows (n + 1) (rowGives net (readRow l)) ls (t .others) line) (List·Memᴰ·cases-cons i)
+  where
+    is-row : {r : RowLine} → RowSaid l r → rowSays net r .ok ≡ true → (side : Side) × (a : ℕ) × (m : ℕ) × IsRow side a m l
+    is-row (row-form w) e = absurd (false-not-true refl e)
+    is-row (row-number f w) e = absurd (false-not-true refl e)
+    is-row (set-row side a m f g r) e = (side, a, m, r)
 
 -- ---- the lines before the rows
 
@@ -228,3 +242,34 @@ read-refused text h = whole (leb (length text) netBytes) (fromHeader (lines text
     header : (ls : List (List ℕ)) → Fresh (fromHeader ls)
     header [] = λ q. refl
     header (l ∷ ls) = whole (sameBytes l netHeader) (fromStart ls) line-form 1 (from-second ls)
+
+-- ---- whatever is read
+
+pub net-orderly : (text : List ℕ) → orderly (readNet text .net) ≡ true
+net-orderly text = elim (true-or-false (readNet text .says .ok)) [
+  | inl h ↦ let a = accepted-parts text h in rw (a .is-rows) (rows-orderly 4 (freshNet (a .start) (a .end)) (a .rows) (fresh-orderly (a .start) (a .end) (a .ends)))
+  | inr h ↦ rw (read-refused text h) refused-orderly
+]
+
+pub ok-accepted : (text : List ℕ) → readNet text .says .ok ≡ true → readNet text .says ≡ accepted 0
+ok-accepted text h =
+    let a = accepted-parts text h in ap (λ (r : Reading). r .says) (a .is-rows) ∙ rows-said 4 (freshNet (a .start) (a .end)) (a .rows) (a .fine)
+
+pub accepted-said : (text : List ℕ) → readNet text .says ≡ accepted 0 → SaidBy text (readNet text .net)
+accepted-said text q =
+    let a = accepted-parts text (ap (λ (s : Says). s .ok) q) in
+    let n = ap (λ (r : Reading). r .net) (a .is-rows) in
+    let g = rows-ends 4 (freshNet (a .start) (a .end)) (a .rows) (a .fine) in
+    let s : readNet text .net .start ≡ a .start = ap (λ (k : Net). k .start) n ∙ g .0 ∙ fresh-start (a .start) (a .end) in
+    let e : readNet text .net .end ≡ a .end = ap (λ (k : Net). k .end) n ∙ g .1 ∙ fresh-end (a .start) (a .end) in
+    record {
+      rows = a .rows;
+      are-lines = rw (s, e, ← start-exactly (a .start-line) (a .start) .0 (a .start-read) .is-text, ← end-exactly (a .end-line) (a .end) .0 (a .end-read) .is-text) (a .are-lines);
+      sets-read = λ side b m.
+          let f = rows-hold 4 (freshNet (a .start) (a .end)) (a .rows) (a .fine) side b m in
+          let k = fresh-on-side (a .start) (a .end) (a .ends) side b m in
+          let d = same-empty (freshNet (a .start) (a .end)) (readNet text .net) side (fresh-start (a .start) (a .end) ∙ sym s) (fresh-end (a .start) (a .end) ∙ sym e) in (
+            (λ i. ⊎-elim (λ j. let z = k .0 j in inl (z .0 ∙ d, z .1)) (λ r. inr r) (f .0 (rw n at i))),
+            (λ u. rw n (f .1 (⊎-elim (λ z. inl (k .1 (z .0 ∙ sym d, z .1))) (λ r. inr r) u))),
+          );
+    }

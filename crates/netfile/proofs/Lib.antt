@@ -4,7 +4,10 @@ pub mod PutRowLaws
 pub mod FileLaws
 pub mod TextLaws
 pub mod NetTextLaws
-pub mod AcceptedLaws
 pub mod RowTextLaws
+pub mod LineReadLaws
+pub mod ListedLaws
+pub mod ReadableLaws
+pub mod AcceptedLaws
 pub mod Theorems
 pub mod Examples

@@ -5,41 +5,41 @@ use Prim.Native.Nat.{ℕ, _+_, _<_}
 use native.Mathlib.Decide.{ℕ-discrete as decEq}
 use native.Mathlib.Omega.{arith}
 use mathlib.Core.Path.{_≡_, refl, sym, ap, _∙_}
-use mathlib.Core.Bool.{true}
+use mathlib.Core.Bool.{Bool, true, false, cond}
 use mathlib.Core.Logic.{_⊎_, inl, inr, ⊎-elim}
-use mathlib.Core.List.{List, [], _∷_, List·Memᴰ, List·Memᴰ·head, List·Memᴰ·tail}
-use borrow.Author.Tests.{ne-eqb}
+use mathlib.Core.List.{List, [], _∷_, _++_, List·Memᴰ, List·Memᴰ·head, List·Memᴰ·tail}
+use lib.Dec.{leb}
+use lib.ListN.{length, take, drop}
+use lib.Seq.{take-append-seam}
+use borrow.Author.Tests.{ne-eqb, leb-true, leb-false}
 use Rattle.obligations.specs.Limits.{activities, masks}
-use Rattle.obligations.proofs.BoolLaws.{true-or-false, false-not-true}
-use Rattle.net.specs.Refusals.{Says, accepted}
-use Rattle.net.specs.Limits.{sets}
+use Rattle.obligations.proofs.BoolLaws.{false-not-true}
+use Rattle.net.specs.Refusals.{Says, accepted, refused, disorderly, text-too-long}
+use Rattle.net.specs.Chains.{unless}
 use Rattle.net.specs.Sides.{masksOf, lengthsOf, emptyAt, OnSide}
 use Rattle.net.specs.Orderly.{endsOk, orderly}
 use Rattle.net.specs.Fresh.{freshNet}
 use Rattle.net.specs.Contained.{Contained}
 use Rattle.net.specs.declared.Net.{Net}
 use Rattle.net.specs.declared.Side.{Side}
-use Rattle.net.specs.declared.Side.the-variants.{Input, Output}
 use Rattle.net.proofs.ListLaws.{one-listed}
 use Rattle.net.proofs.SideLaws.{side-just-empty, set-is-mask}
-use Rattle.net.proofs.OrderlyLaws.{ends-facts, orderly-ends, orderly-sides, orderly-side}
+use Rattle.net.proofs.OrderlyLaws.{ends-facts, orderly-ends, orderly-sides, orderly-side, orderly-facts, facts-orderly}
 use Rattle.net.proofs.FreshLaws.{fresh-start, fresh-end, fresh-on-side, fresh-orderly}
 use Rattle.net.proofs.PutLaws.{put-says-side}
 use Rattle.net.proofs.WithinLaws.{contained-same, put-accepts-within, put-keeps-within}
-use Rattle.netfile.specs.NetFile.{readRow, rowSays, rowGives, Reading, readAs, readRows, fromEnd, fromStart, fromHeader, readNet, activityLines, headLines, netLines, netText}
-use Rattle.netfile.specs.Statements.{RoundTrip, RefusedFresh, ReadOrderly, ReadAgain, RowSaysSide, HasRow, ReadSaid}
-use Rattle.netfile.proofs.RowLaws.{row-facts}
-use Rattle.netfile.proofs.PutRowLaws.{row-orderly}
+use Rattle.net.proofs.SentenceLaws.{ascends, told-end, whole-link, chain-listed, accepted-not-refused}
+use Rattle.net.proofs.CommonLaws.{orderly-link}
+use Rattle.netfile.specs.NetFile.{readRow, rowSays, rowGives, Reading, readAs, readRows, fromEnd, fromStart, fromHeader, readNet, activityLines, headLines, netLines, netText, writeRefusals, writeSays, writeGives}
+use Rattle.netfile.specs.Statements.{NetListed, WriteListed, RefusedFresh, LinesRead, HasRow, NetAccepted, ReadSaid, SameRowsSameNet, ReadOrderly, RowSaysSide, RoundTrip, WrittenRead, ReadAgain}
+use Rattle.netfile.proofs.PutRowLaws.{row-orderly, same-empty}
 use Rattle.netfile.proofs.FileLaws.{read-short}
 use Rattle.netfile.proofs.TextLaws.{net-short}
 use Rattle.netfile.proofs.RowTextLaws.{start-back, end-back, row-back, RowOf, net-row-of, net-row, text-lines}
-use Rattle.netfile.proofs.AcceptedLaws.{refused-orderly, rows-orderly, rows-said, rows-ends, rows-hold, accepted-parts, read-refused}
-
--- ---- the fresh net of a net's start and end
-
-fresh-empty : (start end : ℕ) (side : Side) (net : Net) → net .start ≡ start → net .end ≡ end → emptyAt (freshNet start end) side ≡ emptyAt net side
-fresh-empty start end Input net s e = fresh-start start end ∙ sym s
-fresh-empty start end Output net s e = fresh-end start end ∙ sym e
+use Rattle.netfile.proofs.LineReadLaws.{start-exactly, end-exactly, row-exactly}
+use Rattle.netfile.proofs.AcceptedLaws.{rows-orderly, rows-said, rows-ends, rows-hold, read-refused, net-orderly, accepted-said}
+use Rattle.netfile.proofs.ListedLaws.{net-listed}
+use Rattle.netfile.proofs.ReadableLaws.{accepted-readable, readable-accepted, same-accepted, same-net}
 
 -- ---- the rows of a net, put into a net that it contains
 
@@ -69,6 +69,10 @@ module _ (whole : Net) (q : orderly whole ≡ true) (w : MaskSets whole) where
   after : Reading
   after = readRows 4 fresh (activityLines whole activities 0)
 
+  empty-side : (side : Side) → emptyAt fresh side ≡ emptyAt whole side
+  unfolding fresh
+  empty-side side = same-empty fresh whole side (fresh-start (whole .start) (whole .end)) (fresh-end (whole .start) (whole .end))
+
   fresh-contained : Contained fresh whole
   unfolding fresh
   fresh-contained = record {
@@ -76,7 +80,7 @@ module _ (whole : Net) (q : orderly whole ≡ true) (w : MaskSets whole) where
     same-end = fresh-end (whole .start) (whole .end);
     among = λ side a m h i.
         let e = fresh-on-side (whole .start) (whole .end) ends side a m .0 i in
-        let z = side-just-empty (masksOf whole side) (lengthsOf whole side) (emptyAt whole side) (orderly-sides whole q side) a h (e .0 ∙ fresh-empty (whole .start) (whole .end) side whole refl refl) in
+        let z = side-just-empty (masksOf whole side) (lengthsOf whole side) (emptyAt whole side) (orderly-sides whole q side) a h (e .0 ∙ empty-side side) in
         rw (e .1, z) (one-listed 0);
   }
 
@@ -90,10 +94,10 @@ module _ (whole : Net) (q : orderly whole ≡ true) (w : MaskSets whole) where
   all-put side a m h i = elim (decEq m 0) [
     | yes e ↦
         elim (decEq a (emptyAt whole side)) [
-          | yes d ↦ inl (fresh-on-side (whole .start) (whole .end) ends side a m .1 (d ∙ sym (fresh-empty (whole .start) (whole .end) side whole refl refl), e))
+          | yes d ↦ inl (fresh-on-side (whole .start) (whole .end) ends side a m .1 (d ∙ sym (empty-side side), e))
           | no d ↦ absurd (false-not-true (orderly-side whole q side a h .never-empty d) (rw e at i))
         ]
-    | no d ↦ inr (record { line = _; there = net-row whole side a m h i (omega arith); is-row = row-back side a m h (omega arith) (w side a m i) })
+    | no d ↦ inr (record { line = _; there = net-row whole side a m h i (omega arith); is-row = record { is-text = refl; is-activity = h; not-empty = omega arith; is-mask = w side a m i } })
   ]
 
   after-net : after .net ≡ whole
@@ -129,50 +133,66 @@ unfolding after
 sets-back net o w = text-after net o w ∙ reading-ext (after net o w) (accepted 0) net (rows-said 4 (fresh net o w) (activityLines net activities 0) (accepted-after net o w .0)) (after-net net o w)
 
 pub round-trip : RoundTrip
-round-trip net o w = sets-back net o (set-is-mask net w)
+round-trip net o w = sets-back net (facts-orderly net o) (set-is-mask net w)
+
+-- ---- the two calls one after the other
+
+-- the bytes up to the answered length are the text
+pub written-front : (net : Net) (buf : List ℕ) (n : ℕ) → writeSays net (length buf) ≡ accepted n → (orderly net ≡ true) × (take n (writeGives net buf) ≡ netText net)
+unfolding writeSays writeGives
+written-front net buf n = go (orderly net) (leb (length (netText net)) (length buf))
+  where
+    go : (t u : Bool) → unless t disorderly (unless u text-too-long (accepted (length (netText net)))) ≡ accepted n
+        → (t ≡ true) × (take n (cond (unless t disorderly (unless u text-too-long (accepted (length (netText net)))) .ok) (netText net ++ drop (length (netText net)) buf) buf) ≡ netText net)
+    go true true e =
+        let k : length (netText net) ≡ n = ap (λ (s : Says). s .value) e in
+        (refl, ap (λ (m : ℕ). take m (netText net ++ drop (length (netText net)) buf)) (sym k) ∙ take-append-seam (netText net) (drop (length (netText net)) buf))
+    go true false e = absurd (accepted-not-refused n text-too-long 0 (sym e))
+    go false u e = absurd (accepted-not-refused n disorderly 0 (sym e))
+
+pub written-read : WrittenRead
+written-read net buf n w e = let f = written-front net buf n e in ap readNet (f .1) ∙ sets-back net (f .0) (set-is-mask net w)
+
+pub write-listed : WriteListed
+unfolding writeSays ascends
+write-listed net room =
+    chain-listed (writeRefusals net room) refl (length (netText net))
+    (orderly-link refused (accepted (length (netText net))) _ _ net
+    (λ o. whole-link refused (accepted (length (netText net))) text-too-long (room < length (netText net)) [] (leb (length (netText net)) room) _
+    (λ e h. let k = leb-true (length (netText net)) room e in omega arith) (leb-false (length (netText net)) room)
+    (λ e. told-end refused (accepted (length (netText net))))))
 
 -- ---- whatever is read
 
+pub net-as-listed : NetListed
+net-as-listed = net-listed
+
+pub net-accepted : NetAccepted
+net-accepted text = (accepted-readable text, readable-accepted text)
+
+pub same-rows-same-net : SameRowsSameNet
+same-rows-same-net text other s = (same-accepted text other s, same-net text other s)
+
 pub refused-fresh : RefusedFresh
-refused-fresh = read-refused
+refused-fresh text n p e = read-refused text (ap (λ (s : Says). s .ok) e)
+
+pub lines-read : LinesRead
+lines-read line = (start-exactly line, end-exactly line, row-exactly line)
 
 pub row-says-side : RowSaysSide
-row-says-side net line side a m o e = rw e (put-says-side net side a m o (row-facts line side a m e .0))
+row-says-side net line side a m o i = rw (row-exactly line side a m .1 i) (put-says-side net side a m (facts-orderly net o) (i .is-activity))
 
-pub read-orderly : ReadOrderly
-read-orderly text = elim (true-or-false (readNet text .says .ok)) [
-  | inl h ↦ let a = accepted-parts text h in rw (a .is-rows) (rows-orderly 4 (freshNet (a .start) (a .end)) (a .rows) (fresh-orderly (a .start) (a .end) (a .ends)))
-  | inr h ↦ rw (read-refused text h) refused-orderly
-]
+pub read-orderly : (text : List ℕ) → orderly (readNet text .net) ≡ true
+read-orderly = net-orderly
+
+pub whatever-orderly : ReadOrderly
+whatever-orderly text = orderly-facts (readNet text .net) (net-orderly text)
 
 pub read-said : ReadSaid
-read-said text h =
-    let a = accepted-parts text h in
-    let n = ap (λ (r : Reading). r .net) (a .is-rows) in
-    let g = rows-ends 4 (freshNet (a .start) (a .end)) (a .rows) (a .fine) in
-    let s : readNet text .net .start ≡ a .start = ap (λ (k : Net). k .start) n ∙ g .0 ∙ fresh-start (a .start) (a .end) in
-    let e : readNet text .net .end ≡ a .end = ap (λ (k : Net). k .end) n ∙ g .1 ∙ fresh-end (a .start) (a .end) in
-    record {
-      start-line = a .start-line;
-      end-line = a .end-line;
-      rows = a .rows;
-      are-lines = a .are-lines;
-      start-read = rw s (a .start-read);
-      end-read = rw e (a .end-read);
-      sets-read = λ side b m.
-          let f = rows-hold 4 (freshNet (a .start) (a .end)) (a .rows) (a .fine) side b m in
-          let k = fresh-on-side (a .start) (a .end) (a .ends) side b m in
-          let d = fresh-empty (a .start) (a .end) side (readNet text .net) s e in (
-            (λ i. ⊎-elim (λ j. let z = k .0 j in inl (z .0 ∙ d, z .1)) (λ r. inr r) (f .0 (rw n at i))),
-            (λ u. rw n (f .1 (⊎-elim (λ z. inl (k .1 (z .0 ∙ sym d, z .1))) (λ r. inr r) u))),
-          );
-    }
+read-said = accepted-said
 
-read-masks : (text : List ℕ) → readNet text .says .ok ≡ true → MaskSets (readNet text .net)
-read-masks text h side a m i = ⊎-elim (λ e. omega arith) (λ r. row-facts (r .line) side a m (r .is-row) .2) (read-said text h .sets-read side a m .0 i)
+read-masks : (text : List ℕ) → readNet text .says ≡ accepted 0 → MaskSets (readNet text .net)
+read-masks text h side a m i = ⊎-elim (λ e. omega arith) (λ r. r .is-row .is-mask) (read-said text h .sets-read side a m .0 i)
 
 pub read-again : ReadAgain
-read-again text h =
-    let a = accepted-parts text h in
-    let s : readNet text .says ≡ accepted 0 = ap (λ (r : Reading). r .says) (a .is-rows) ∙ rows-said 4 (freshNet (a .start) (a .end)) (a .rows) (a .fine) in
-    sets-back (readNet text .net) (read-orderly text) (read-masks text h) ∙ sym (reading-ext (readNet text) (accepted 0) (readNet text .net) s refl)
+read-again text h = sets-back (readNet text .net) (read-orderly text) (read-masks text h) ∙ sym (reading-ext (readNet text) (accepted 0) (readNet text .net) h refl)

@@ -1,7 +1,7 @@
 -- Net files (01, "The tables" and "Refused, lowest number first"). A file is read by line, the first line with a refusal
 -- decides, and on a line 13 comes before 14 and both before the others. The rows are put into the fresh net of the start
 -- and the end one after the other.
-use Prim.Native.Nat.{ℕ, zero, suc, _+_}
+use Prim.Native.Nat.{ℕ, zero, suc, _+_, _<_}
 use mathlib.Core.Path.{_≡_}
 use mathlib.Core.Bool.{_&&_, cond}
 use mathlib.Core.List.{List, [], _∷_, _++_}
@@ -18,6 +18,9 @@ use Rattle.text.specs.declared.decimal.Number.the-variants as number
 use Rattle.text.specs.declared.members.Members.{Members}
 use Rattle.text.specs.declared.members.Members.the-variants as members
 use Rattle.net.specs.Refusals.{Says, accepted, refused, bad-ends, disorderly, outside-limits, line-form, number-form, text-too-long}
+use Rattle.net.specs.Sentences.{Sentence, whole}
+use Rattle.net.specs.Chains.{unless}
+use Rattle.net.specs.Common.{notOrderly}
 use Rattle.net.specs.Sides.{setsOn}
 use Rattle.net.specs.Orderly.{orderly}
 use Rattle.net.specs.Fresh.{freshNet}
@@ -106,17 +109,22 @@ rowGives net (row-line.Refused n) = net
 
 -- ---- reading a file
 
+-- what each answer means
+abbrev pub netMeans : NetAnswer → Says
+netMeans net-answer.Read = accepted 0
+netMeans (net-answer.Refused n p) = refused n p
+
 -- what is read: what the reader has to say and the net that it has to return
 pub record Reading : Type 0 where
   pub says : Says
   pub net : Net
 
 abbrev pub readAs : Net → Reading
-readAs net = record { says = accepted 0; net = net }
+readAs net = record { says = netMeans net-answer.Read; net = net }
 
 -- a refused reading returns the fresh net of 0 and 1
 abbrev pub refusedAt : ℕ → ℕ → Reading
-refusedAt n line = record { says = refused n line; net = freshNet 0 1 }
+refusedAt n line = record { says = netMeans (net-answer.Refused n line); net = freshNet 0 1 }
 
 -- the rows on the lines from line n on, into a net
 unfoldable pub readRows : ℕ → Net → List (List ℕ) → Reading
@@ -149,11 +157,6 @@ fromHeader (l ∷ ls) = cond (sameBytes l netHeader) (fromStart ls) (refusedAt l
 
 unfoldable pub readNet : List ℕ → Reading
 readNet text = cond (leb (length text) netBytes) (fromHeader (lines text)) (refusedAt outside-limits 0)
-
--- what each answer says
-abbrev pub netMeans : NetAnswer → Says
-netMeans net-answer.Read = accepted 0
-netMeans (net-answer.Refused n p) = refused n p
 
 -- an answer and a net are what was to be read
 pub record Reads (d : Reading) (r : NetReading) : Type 0 where
@@ -196,17 +199,21 @@ netLines net = headLines (net .start) (net .end) ++ activityLines net activities
 unfoldable pub netText : Net → List ℕ
 netText net = unlines (netLines net)
 
--- what each answer says: an accepted writing's value is the text's length
+-- what each answer means: an accepted writing's value is the text's length
 abbrev pub writeMeans : WriteAnswer → Says
 writeMeans (write-answer.Written n) = accepted n
 writeMeans (write-answer.Refused n p) = refused n p
 
--- what the writer has to say with a buffer of `room` bytes
+-- with a buffer of `room` bytes. 15: the text is longer than the buffer
+abbrev pub writeRefusals : Net → ℕ → List Sentence
+writeRefusals net room = notOrderly net ∷ whole text-too-long (room < length (netText net)) ∷ []
+
+-- what the writer has to say
 unfoldable pub writeSays : Net → ℕ → Says
 writeSays net room =
-    cond (orderly net)
-    (cond (leb (length (netText net)) room) (accepted (length (netText net))) (refused text-too-long 0))
-    (refused disorderly 0)
+    unless (orderly net) disorderly
+    (unless (leb (length (netText net)) room) text-too-long
+    (accepted (length (netText net))))
 
 -- the buffer after it: the text at its front if the call was accepted, and every other byte as it was
 unfoldable pub writeGives : Net → List ℕ → List ℕ
