@@ -29,9 +29,8 @@ use Rattle.netfile.specs.declared.line.EndLine.{EndLine}
 use Rattle.netfile.specs.declared.line.EndLine.the-variants.{Activity, Refused}
 use Rattle.netfile.specs.declared.line.RowLine.{RowLine}
 use Rattle.netfile.specs.declared.line.RowLine.the-variants as row-line
-use Rattle.netfile.proofs.RowLaws.{end-activity}
 use Rattle.netfile.proofs.PutRowLaws.{row-orderly, same-empty}
-use Rattle.netfile.proofs.LineReadLaws.{start-exactly, end-exactly, RowSaid, row-form, row-number, set-row, row-said, row-exactly}
+use Rattle.netfile.proofs.LineReadLaws.{end-is, start-exactly, end-exactly, RowSaid, row-form, row-number, set-row, row-said, row-exactly}
 
 -- the net of a refused reading
 pub refused-orderly : orderly (freshNet 0 1) ≡ true
@@ -161,7 +160,7 @@ accepted-parts text h = size (leb (length text) netBytes) refl
       are-lines = ls;
       start-read = p;
       end-read = q;
-      ends = facts-ends start end (end-activity startWord s start p) (end-activity endWord e end q) (eqb-false start end d);
+      ends = facts-ends start end (end-is startWord s start p .is-activity) (end-is endWord e end q .is-activity) (eqb-false start end d);
       is-rows = u;
       fine = sym (ap (λ (r : Reading). r .says .ok) u) ∙ h;
     }

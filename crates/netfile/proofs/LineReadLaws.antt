@@ -102,7 +102,7 @@ end-said word line = elim (decEq (count comma line) 2) [
         rw (end-plain word line (wordOf line) (numberIn line) (membersIn line) (fields-three line c) w m)
         (numbers c (same-exactly (wordOf line) word .0 w) (empty-exactly (membersIn line) .0 m) (parseNumber highest (numberIn line)) refl)
 
-end-is : (word line : List ℕ) (a : ℕ) → readEnd word line ≡ end-line.Activity a → IsEnd word a line
+pub end-is : (word line : List ℕ) (a : ℕ) → readEnd word line ≡ end-line.Activity a → IsEnd word a line
 end-is word line a e = go (end-said word line) e
   where
     go : {r : EndLine} → EndSaid word line r → r ≡ end-line.Activity a → IsEnd word a line

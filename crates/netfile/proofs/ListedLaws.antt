@@ -63,7 +63,7 @@ put-ok-or-refused net side a m =
     go true false r t v = inr (no-activity, 0, refl)
     go false q r t v = inr (disorderly, 0, refl)
 
-pub data PutSaid (net : Net) (side : Side) (a m : ℕ) : Type 0 where
+data PutSaid (net : Net) (side : Side) (a m : ℕ) : Type 0 where
   said-misplaced : putSays net side a m ≡ refused misplaced-set 0 → a ≡ emptyAt net side → PutSaid net side a m
   said-full : putSays net side a m ≡ refused full-side 0 → (a ≡ emptyAt net side → ⊥) → Exceeds net side a m → PutSaid net side a m
   said-put : putSays net side a m .ok ≡ true → (a ≡ emptyAt net side → ⊥) → (Exceeds net side a m → ⊥) → PutSaid net side a m

@@ -1,29 +1,24 @@
 -- Laws of one line: what each test of its fields decides, for a line s[i..e] whose commas are counted and found. A line
 -- has as many fields as commas and one more. Assumes nothing.
-use Prim.Native.Nat.{ℕ, _≤_, _<_, _^_}
+use Prim.Native.Nat.{ℕ, _≤_, _<_}
 use mathlib.Core.Path.{_≡_, refl}
-use mathlib.Core.Bool.{Bool, true, false, _&&_, cond}
+use mathlib.Core.Bool.{true, false, _&&_, cond}
 use mathlib.Core.List.{List, [], _∷_}
 use native.Mathlib.Omega.{arith}
 use lib.ListN.{length}
 use lib.Seq.{slice, slice-empty}
-use Rattle.obligations.specs.Limits.{activities}
 use Rattle.text.specs.Bytes.{count, sameBytes}
 use Rattle.text.specs.Fields.{comma, split}
 use Rattle.text.specs.Decimal.{isEmpty, parseNumber}
 use Rattle.text.specs.Members.{highest, parseMembers}
-use Rattle.text.specs.declared.decimal.Number.{Number}
 use Rattle.text.specs.declared.decimal.Number.the-variants as number
-use Rattle.text.specs.declared.members.Members.{Members}
 use Rattle.text.specs.declared.members.Members.the-variants as members
 use Rattle.text.proofs.ByteLaws.{slice-step}
 use Rattle.text.proofs.FieldLaws.{length-split}
-use Rattle.text.proofs.DecimalLaws.{parse-most}
-use Rattle.text.proofs.MemberListLaws.{parse-members-mask}
 use Rattle.net.specs.Refusals.{line-form, number-form}
 use Rattle.net.specs.declared.Side.{Side}
 use Rattle.net.specs.declared.Side.the-variants.{Input, Output}
-use Rattle.netfile.specs.NetFile.{sideWord, endNumber, endFields, readEnd, rowNumbers, rowRest, rowFields, readRow}
+use Rattle.netfile.specs.NetFile.{sideWord, endNumber, endFields, readEnd, rowRest, rowFields, readRow}
 use Rattle.netfile.specs.declared.line.EndLine.the-variants as end-line
 use Rattle.netfile.specs.declared.line.RowLine.the-variants as row-line
 
@@ -72,29 +67,6 @@ module _ (word line w a m : List ℕ) (f : split comma line ≡ w ∷ a ∷ m �
   pub end-plain : sameBytes w word ≡ true → isEmpty m ≡ true → readEnd word line ≡ endNumber (parseNumber highest a)
   end-plain t u = rw (end-three, t, u)
 
--- a start or an end that was read is an activity
-pub end-activity : (word line : List ℕ) (k : ℕ) → readEnd word line ≡ end-line.Activity k → k < activities
-unfolding readEnd
-end-activity word line k h = fields (split comma line) h
-  where
-    never : {k : ℕ} → end-line.Refused line-form ≡ end-line.Activity k → ⊥
-    never q = let z : _≡_ {A = ℕ} 0 1 = cc in omega arith
-
-    some : (a : List ℕ) (n : Number) → parseNumber highest a ≡ n → endNumber n ≡ end-line.Activity k → k < activities
-    some a (number.Value j) p q = let z : j ≡ k = cc in omega (arith, parse-most highest a j p)
-    some a number.Refused p q = let z : _≡_ {A = ℕ} 0 1 = cc in absurd (omega arith)
-
-    test : (t : Bool) (a : List ℕ) → cond t (endNumber (parseNumber highest a)) (end-line.Refused line-form) ≡ end-line.Activity k → k < activities
-    test true a q = some a (parseNumber highest a) refl q
-    test false a q = absurd (never q)
-
-    fields : (fs : List (List ℕ)) → endFields word fs ≡ end-line.Activity k → k < activities
-    fields [] q = absurd (never q)
-    fields (w ∷ []) q = absurd (never q)
-    fields (w ∷ a ∷ []) q = absurd (never q)
-    fields (w ∷ a ∷ m ∷ []) q = test (sameBytes w word && isEmpty m) a q
-    fields (w ∷ a ∷ m ∷ x ∷ fs) q = absurd (never q)
-
 -- ---- a row with three fields
 
 module _ (line w a m : List ℕ) (f : split comma line ≡ w ∷ a ∷ m ∷ []) where
@@ -127,38 +99,3 @@ module _ (side : Side) (a m : List ℕ) where
   pub rest-set : isEmpty m ≡ false → (k x : ℕ) → parseNumber highest a ≡ number.Value k → parseMembers m ≡ members.Set x → rowRest side a m ≡ row-line.Set side k x
   unfolding rowRest
   rest-set d k x q r = rw (d, q, r)
-
--- ---- a row's set
-
--- a row that was read is of an activity, and its set is a mask of 32 bits that is not empty
-pub row-facts : (line : List ℕ) (side : Side) (k x : ℕ) → readRow line ≡ row-line.Set side k x → (k < activities) × (0 < x) × (x < 2 ^ 32)
-unfolding readRow rowRest
-row-facts line side k x h = fields (split comma line) h
-  where
-    never : {n : ℕ} → row-line.Refused n ≡ row-line.Set side k x → ⊥
-    never q = let z : _≡_ {A = ℕ} 0 1 = cc in omega arith
-
-    numbers : (t : Side) (a m : List ℕ) (n : Number) (s : Members) → parseNumber highest a ≡ n → parseMembers m ≡ s → rowNumbers t n s ≡ row-line.Set side k x → (k < activities) × (0 < x) × (x < 2 ^ 32)
-    numbers t a m (number.Value j) (members.Set y) p q e =
-        let u : j ≡ k = cc in
-        let v : y ≡ x = cc in
-        let f = parse-members-mask m y q in
-        (omega (arith, parse-most highest a j p), omega (arith, f .0), rw v at (f .1))
-    numbers t a m (number.Value j) members.Refused p q e = absurd (never e)
-    numbers t a m number.Refused s p q e = absurd (never e)
-
-    rest : (t : Side) (a m : List ℕ) → rowRest t a m ≡ row-line.Set side k x → (k < activities) × (0 < x) × (x < 2 ^ 32)
-    rest t a [] e = absurd (never e)
-    rest t a (b ∷ m) e = numbers t a (b ∷ m) (parseNumber highest a) (parseMembers (b ∷ m)) refl refl e
-
-    words : (p q : Bool) (a m : List ℕ) → cond p (rowRest Input a m) (cond q (rowRest Output a m) (row-line.Refused line-form)) ≡ row-line.Set side k x → (k < activities) × (0 < x) × (x < 2 ^ 32)
-    words true q a m e = rest Input a m e
-    words false true a m e = rest Output a m e
-    words false false a m e = absurd (never e)
-
-    fields : (fs : List (List ℕ)) → rowFields fs ≡ row-line.Set side k x → (k < activities) × (0 < x) × (x < 2 ^ 32)
-    fields [] e = absurd (never e)
-    fields (w ∷ []) e = absurd (never e)
-    fields (w ∷ a ∷ []) e = absurd (never e)
-    fields (w ∷ a ∷ m ∷ []) e = words (sameBytes w (sideWord Input)) (sameBytes w (sideWord Output)) a m e
-    fields (w ∷ a ∷ m ∷ x ∷ fs) e = absurd (never e)

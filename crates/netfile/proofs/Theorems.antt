@@ -1,6 +1,6 @@
 -- The statements of specs/Statements.antt. The round trip: every row that was written is of a set of the net, so each put
 -- into a net that the net contains is accepted and leaves such a net; after the last row it holds all sets of the net, and
--- orderly nets that contain each other are equal. Assumes nothing.
+-- orderly nets that contain each other are equal. What is read is the laws' to say. Assumes nothing.
 use Prim.Native.Nat.{ℕ, _+_, _<_}
 use native.Mathlib.Decide.{ℕ-discrete as decEq}
 use native.Mathlib.Omega.{arith}

@@ -10,7 +10,7 @@ use Rattle.text.specs.Lines.{lines, nextLine}
 use Rattle.net.specs.Sides.{netOf}
 use Rattle.net.specs.Orderly.{orderly}
 use Rattle.netfile.specs.NetFile.{readRows}
-use Rattle.netfile.proofs.RowLaws.{row-facts}
+use Rattle.netfile.proofs.LineReadLaws.{row-exactly}
 use Rattle.netfile.proofs.PutRowLaws.{row-orderly}
 use Rattle.netfile.proofs.FileLaws.{rows-more, rows-bad, rows-end}
 use Rattle.netfile.proofs.read.read_rows.Statement.{statement}
@@ -36,7 +36,7 @@ row-line-requires : tie.Need-row-line-requires Inv-loop μ-loop
 row-line-requires c κs = search needs
 
 put-row-requires : tie.Need-put-row-requires Inv-loop μ-loop
-put-row-requires c κs = (c .before .before .before .before .before .before .before .loop .inv .2, λ side a m q. row-facts _ side a m (sym (c .before .before .before .before .row-line .ensures) ∙ q) .0)
+put-row-requires c κs = (c .before .before .before .before .before .before .before .loop .inv .2, λ side a m q. row-exactly _ side a m .0 (sym (c .before .before .before .before .row-line .ensures) ∙ q) .is-activity)
 
 enum-known-put : tie.Need-enum-known-put Inv-loop μ-loop
 enum-known-put c = search needs

@@ -3,7 +3,7 @@ use mathlib.Core.Path.{refl, sym, _∙_}
 use borrow.Author.Needs.{needs}
 use denote.Ref.{now}
 use Rattle.text.specs.Lines.{nextLine}
-use Rattle.netfile.proofs.RowLaws.{end-activity}
+use Rattle.netfile.proofs.LineReadLaws.{end-is}
 use Rattle.netfile.proofs.FileLaws.{start-line}
 use Rattle.netfile.proofs.read.read_start.Statement.{statement}
 use Rattle.netfile.proofs.read.read_start.Tie as tie
@@ -24,7 +24,7 @@ next-line-requires : tie.Need-next-line-requires
 next-line-requires c κs = search needs
 
 read-end-requires : tie.Need-read-end-requires
-read-end-requires c κs = (search needs, search needs, end-activity _ _ _ (sym (c .before .before .before .before .end-line .ensures) ∙ c .before .before .line .given .1))
+read-end-requires c κs = (search needs, search needs, end-is _ _ _ (sym (c .before .before .before .before .end-line .ensures) ∙ c .before .before .line .given .1) .is-activity)
 
 enum-known-line-2 : tie.Need-enum-known-line-2
 enum-known-line-2 c = search needs
