@@ -12,7 +12,7 @@ use Rattle.obligations.proofs.BoolLaws.{true-or-false, false-not-true}
 use Rattle.text.specs.Bytes.{sameBytes}
 use Rattle.text.specs.Lines.{lines}
 use Rattle.text.proofs.ByteLaws.{same-equal}
-use Rattle.net.specs.Refusals.{Says, accepted, outside-limits, line-form, bad-ends}
+use Rattle.net.specs.Refusals.{Says, accepted, outside-limits, line-form}
 use Rattle.net.specs.Sides.{OnSide}
 use Rattle.net.specs.Orderly.{endsOk, orderly}
 use Rattle.net.specs.Fresh.{freshNet}
@@ -149,9 +149,9 @@ accepted-parts text h = size (leb (length text) netBytes) refl
     never n p e = false-not-true (ap (λ (r : Reading). r .says .ok) e) h
 
     ends : (start end : ℕ) (s e : List ℕ) (rs : List (List ℕ)) → readEnd startWord s ≡ Activity start → readEnd endWord e ≡ Activity end → lines text ≡ netHeader ∷ s ∷ e ∷ rs
-        → (t : Bool) → eqb start end ≡ t → readNet text ≡ cond t (refusedAt bad-ends 3) (readRows 4 (freshNet start end) rs) → Accepted text
-    ends start end s e rs p q ls true d u = absurd (never bad-ends 3 u)
-    ends start end s e rs p q ls false d u = record {
+        → (t : Bool) (k n : ℕ) → eqb start end ≡ t → readNet text ≡ cond t (refusedAt k n) (readRows 4 (freshNet start end) rs) → Accepted text
+    ends start end s e rs p q ls true k n d u = absurd (never k n u)
+    ends start end s e rs p q ls false k n d u = record {
       start = start;
       end = end;
       start-line = s;
@@ -167,7 +167,7 @@ accepted-parts text h = size (leb (length text) netBytes) refl
 
     third : (start : ℕ) (s e : List ℕ) (rs : List (List ℕ)) → readEnd startWord s ≡ Activity start → lines text ≡ netHeader ∷ s ∷ e ∷ rs
         → (r : EndLine) → readEnd endWord e ≡ r → readNet text ≡ afterEnd start r rs → Accepted text
-    third start s e rs p ls (Activity end) q u = ends start end s e rs p q ls (eqb start end) refl u
+    third start s e rs p ls (Activity end) q u = ends start end s e rs p q ls (eqb start end) _ _ refl u
     third start s e rs p ls (Refused k) q u = absurd (never k 3 u)
 
     from-third : (start : ℕ) (s : List ℕ) (rs : List (List ℕ)) → readEnd startWord s ≡ Activity start → lines text ≡ netHeader ∷ s ∷ rs → readNet text ≡ fromEnd start rs → Accepted text
@@ -219,11 +219,11 @@ read-refused text h = whole (leb (length text) netBytes) (fromHeader (lines text
     whole false r n p f = λ q. refl
 
     third : (start : ℕ) (r : EndLine) (ls : List (List ℕ)) → Fresh (afterEnd start r ls)
-    third start (Activity end) ls = equal (eqb start end)
+    third start (Activity end) ls = equal (eqb start end) _ _
       where
-        equal : (t : Bool) → Fresh (cond t (refusedAt bad-ends 3) (readRows 4 (freshNet start end) ls))
-        equal true = λ q. refl
-        equal false = rows-refused 4 (freshNet start end) ls
+        equal : (t : Bool) (k n : ℕ) → Fresh (cond t (refusedAt k n) (readRows 4 (freshNet start end) ls))
+        equal true k n = λ q. refl
+        equal false k n = rows-refused 4 (freshNet start end) ls
     third start (Refused k) ls = λ q. refl
 
     from-third : (start : ℕ) (ls : List (List ℕ)) → Fresh (fromEnd start ls)
