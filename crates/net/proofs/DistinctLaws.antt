@@ -47,7 +47,7 @@ distinct-within (x ∷ xs) l d f =
     let n : listed x xs ≡ false = not-true (listed x xs) (and-left (not (listed x xs)) (distinct xs) d) in
     let k = length-crossed x l (f x (listed-first x xs)) in
     let r = distinct-within xs (crossed x l) (and-right (not (listed x xs)) (distinct xs) d)
-          (λ m h. listed-crossed m x l (λ e. false-not-true n (subst (λ (y : ℕ). listed y xs ≡ true) (sym e) h)) (f m (listed-later m x xs h))) in
+    (λ m h. listed-crossed m x l (λ e. false-not-true n (subst (λ (y : ℕ). listed y xs ≡ true) (sym e) h)) (f m (listed-later m x xs h))) in
     omega arith
 
 -- ---- lists without an element twice

@@ -58,13 +58,13 @@ misplaced-exactly : (net : Net) (side : Side) (a m : ℕ) → (misplaced (emptyA
 unfolding misplaced
 misplaced-exactly net side a m = elim (decEq m 0) [
   | yes e ↦ (
-      (λ t. inl (e, eqb-false a (emptyAt net side) (not-true (eqb a (emptyAt net side)) (rw (eq-eqb m 0 e) at t)))),
-      (λ w. rw (eq-eqb m 0 e) (⊎-elim (λ v. rw (ne-eqb a (emptyAt net side) (v .1))) (λ v. absurd (v .0 e)) w)),
-    )
+    (λ t. inl (e, eqb-false a (emptyAt net side) (not-true (eqb a (emptyAt net side)) (rw (eq-eqb m 0 e) at t)))),
+    (λ w. rw (eq-eqb m 0 e) (⊎-elim (λ v. rw (ne-eqb a (emptyAt net side) (v .1))) (λ v. absurd (v .0 e)) w)),
+  )
   | no d ↦ (
-      (λ t. inr (d, eqb-true a (emptyAt net side) (rw (ne-eqb m 0 d) at t))),
-      (λ w. rw (ne-eqb m 0 d) (⊎-elim (λ v. absurd (d (v .0))) (λ v. eq-eqb a (emptyAt net side) (v .1)) w)),
-    )
+    (λ t. inr (d, eqb-true a (emptyAt net side) (rw (ne-eqb m 0 d) at t))),
+    (λ w. rw (ne-eqb m 0 d) (⊎-elim (λ v. absurd (d (v .0))) (λ v. eq-eqb a (emptyAt net side) (v .1)) w)),
+  )
 ]
 
 pub head-or-later : (x m : ℕ) (l : List ℕ) → listed x (m ∷ l) ≡ true → (listed x l ≡ true) ⊎ (x ≡ m)

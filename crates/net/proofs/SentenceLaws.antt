@@ -145,8 +145,8 @@ module _ {A : Type 0} (refusal : ℕ → ℕ → A) (same : (n m p q : ℕ) → 
         refused-exactly = λ n p. (
           (λ e. let s = same m n q p e in subst (λ (x : ℕ). Listed ss x p) (s .0) (subst (λ (x : ℕ). Listed ss m x) (s .1) here)),
           (λ l.
-          let e = same-number here l in
-          let u = holds-unique (λ n. n) 0 ss a m n q p e h (l .holds) in ap (λ (x : ℕ). refusal x q) (u .0) ∙ ap (refusal n) (u .1)),
+              let e = same-number here l in
+              let u = holds-unique (λ n. n) 0 ss a m n q p e h (l .holds) in ap (λ (x : ℕ). refusal x q) (u .0) ∙ ap (refusal n) (u .1)),
         );
         accepted-exactly = ((λ f. absurd (f m q refl)), (λ none. absurd (none m q h)));
         given-or-none = inr (m, q, here);
@@ -203,8 +203,8 @@ module _ {A : Type 0} (refusal : ℕ → ℕ → A) (ss : ℕ → List Sentence)
           refused-exactly = λ n p. (
             (λ e. let s = same m n k p e in subst (λ (x : ℕ). ListedByLine ss x p) (s .0) (subst (λ (x : ℕ). ListedByLine ss m x) (s .1) here)),
             (λ l.
-            let e = same-line here l in
-            let there : ListedByLine ss n k = subst (λ (x : ℕ). ListedByLine ss n x) (sym e) l in ap (λ (x : ℕ). refusal x k) (same-order here there) ∙ ap (refusal n) e),
+                let e = same-line here l in
+                let there : ListedByLine ss n k = subst (λ (x : ℕ). ListedByLine ss n x) (sym e) l in ap (λ (x : ℕ). refusal x k) (same-order here there) ∙ ap (refusal n) e),
           );
           accepted-exactly = ((λ f. absurd (f m k refl)), (λ none. absurd (none k m 0 (here .holds))));
           given-or-none = inr (m, k, here);

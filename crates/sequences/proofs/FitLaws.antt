@@ -33,9 +33,9 @@ accepted-fits net s o h f =
     let q = gained-orderly net s o h in
     record {
       at-most = λ t a l.
-        at-most-listed sets (λ m. OnSide net t a m ⊎ SetOf t s a m) (setsOn g t a) (side-distinct g q t a l)
-        (λ m. (gained-on-side net s o h f t a m .1, gained-on-side net s o h f t a m .0)) .0
-        (omega (arith, sets-length g q t a l, orderly-at-most g q t a l));
+          at-most-listed sets (λ m. OnSide net t a m ⊎ SetOf t s a m) (setsOn g t a) (side-distinct g q t a l)
+          (λ m. (gained-on-side net s o h f t a m .1, gained-on-side net s o h f t a m .0)) .0
+          (omega (arith, sets-length g q t a l, orderly-at-most g q t a l));
     }
 
 -- ---- where one is refused
@@ -48,7 +48,7 @@ module _ (net : Net) (b : Binding) (o : orderly net ≡ true) (h : b .activity <
       let ms = setsOn net t (b .activity) in
       let f = refused-full (masksOf net t) (lengthsOf net t) (emptyAt net t) (b .activity) (setFor t b) p k in
       let n = w .at-most t (b .activity) h (setFor t b ∷ ms) (distinct-more (setFor t b) ms (f .0) (side-distinct net o t (b .activity) h))
-            (λ m i. ⊎-elim inl (λ e. inr (set-first t b s refl (sym e))) (head-or-later m (setFor t b) ms i)) in
+      (λ m i. ⊎-elim inl (λ e. inr (set-first t b s refl (sym e))) (head-or-later m (setFor t b) ms i)) in
       omega (arith, sets-length net o t (b .activity) h, f .1)
 
   refused-exceeds : misplaced (net .start) (b .activity) (b .input) ≡ false → misplaced (net .end) (b .activity) (b .output) ≡ false → (s : List Binding) → takesBinding net b ≡ false → Fits net (b ∷ s) → ⊥

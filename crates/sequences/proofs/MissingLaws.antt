@@ -7,12 +7,12 @@ use mathlib.Core.List.{List}
 use native.Mathlib.Omega.{arith}
 use lib.ListN.{getD}
 use Rattle.obligations.specs.Tests.{firstFailing}
-use Rattle.obligations.specs.Sequence.{Binding, bindings}
+use Rattle.obligations.specs.Sequence.{bindings}
 use Rattle.obligations.proofs.BoolLaws.{and-both}
 use Rattle.obligations.proofs.PositionLaws.{AllPass, pass-first, fails-first}
 use Rattle.obligations.proofs.TraceLaws.{pass-more}
 use Rattle.net.specs.Lists.{listed}
-use Rattle.net.specs.Sides.{setsOn, netOf}
+use Rattle.net.specs.Sides.{setsOn}
 use Rattle.net.specs.declared.Net.{Net}
 use Rattle.net.specs.declared.Side.the-variants.{Input, Output}
 use Rattle.sequences.specs.Inner.{Positions}
@@ -28,11 +28,6 @@ pub record Passed (net : Net) (ws : List ℕ) (n i place : ℕ) : Type 0 where
   pub at-most : i ≤ n
   pub place-is : place ≡ 3 * i
   pub all-on : AllPass i (bothOn net ws)
-
--- the net's start and end have no part in the answer
-pub ends-free : (net : Net) (s : List Binding) → firstMissing net s ≡ firstMissing (netOf 0 0 (net .inputs) (net .«input_len») (net .outputs) (net .«output_len»)) s
-unfolding firstMissing onSideAt
-ends-free net s = refl
 
 module _ (net : Net) (ws : List ℕ) (n : ℕ) where
   pub passed-none : Passed net ws n 0 0

@@ -13,9 +13,7 @@ use obligations::trace::is_shaped;
 use walks::survey_net;
 ghost use mathlib.Core.Path.{_≡_};
 ghost use mathlib.Core.Bool.{true};
-ghost use Prim.Native.Nat.{ℕ};
 ghost use Rattle.obligations.specs.Sequence.{bindings};
-ghost use Rattle.net.specs.Sides.{Sides, netOf};
 ghost use Rattle.net.specs.Orderly.{orderly};
 ghost use Rattle.sequences.specs.Judge.{firstMissing, JudgeDone};
 ghost use Rattle.sequences.specs.Inner.{Positions, RunJudged, PositionsJudged};
@@ -60,14 +58,7 @@ fn judge_positions(net: Net, words: &[u32], n: usize) -> JudgeAnswer
             place: 0,
         };
     }
-    let missing = first_missing(
-        &net.inputs,
-        &net.input_len,
-        &net.outputs,
-        &net.output_len,
-        words,
-        n,
-    );
+    let missing = first_missing(net, words, n);
     if missing != 0 {
         return JudgeAnswer::Refused {
             number: refusal::MISSING_SET,
@@ -77,20 +68,12 @@ fn judge_positions(net: Net, words: &[u32], n: usize) -> JudgeAnswer
     run_judged(words, n)
 }
 
-// The first position whose X or Y isn't in the net of these arrays, or 0. At each position its activity's input sets are
-// searched for X and then its output sets for Y; a search that doesn't find its set leaves the loop over positions.
-fn first_missing<'a>(
-    inputs: &'a [u32],
-    input_len: &'a [u32],
-    outputs: &'a [u32],
-    output_len: &'a [u32],
-    words: &[u32],
-    n: usize,
-) -> u32
-    requires { ⌜ Sides (now inputs) (now «input_len») ⌝ }
-    requires { ⌜ Sides (now outputs) (now «output_len») ⌝ }
+// The first position whose X or Y isn't in the net, or 0. At each position its activity's input sets are searched for X and
+// then its output sets for Y; a search that doesn't find its set leaves the loop over positions.
+fn first_missing(net: Net, words: &[u32], n: usize) -> u32
+    requires { ⌜ orderly net ≡ true ⌝ }
     requires { ⌜ Positions (now words) n ⌝ }
-    ensures { λ r. ⌜ ((start end : ℕ) → r ≡ firstMissing (netOf start end (now (inputs .entry)) (now («input_len» .entry)) (now (outputs .entry)) (now («output_len» .entry))) (bindings (now (words .entry)))) ⌝ }
+    ensures { λ r. ⌜ r ≡ firstMissing net (bindings (now (words .entry))) ⌝ }
 {
     let mut i: usize = 0;
     let mut at: usize = 0;
@@ -99,14 +82,14 @@ fn first_missing<'a>(
         let x = words[at + 1];
         let y = words[at + 2];
         let from = SETS as usize * a;
-        let inputs_end = from + input_len[a] as usize;
-        let outputs_end = from + output_len[a] as usize;
+        let inputs_end = from + net.input_len[a] as usize;
+        let outputs_end = from + net.output_len[a] as usize;
         let mut j = from;
         loop {
             if j == inputs_end {
                 break 'positions;
             }
-            if inputs[j] == x {
+            if net.inputs[j] == x {
                 break;
             }
             j += 1;
@@ -116,7 +99,7 @@ fn first_missing<'a>(
             if k == outputs_end {
                 break 'positions;
             }
-            if outputs[k] == y {
+            if net.outputs[k] == y {
                 break;
             }
             k += 1;

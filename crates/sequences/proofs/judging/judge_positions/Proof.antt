@@ -5,8 +5,6 @@ use native.Mathlib.Omega.{arith}
 use borrow.Author.Tests.{not-true, not-false}
 use lib.Count.{trailingZeros}
 use Rattle.obligations.specs.Sequence.{bindings}
-use Rattle.net.specs.declared.Side.the-variants.{Input, Output}
-use Rattle.net.proofs.OrderlyLaws.{orderly-arrays}
 use Rattle.walks.specs.Check.{lost, lowestMember}
 use Rattle.walks.proofs.LinkLaws.{lost-lt}
 use Rattle.walks.proofs.CheckLaws.{lowest-is}
@@ -24,7 +22,7 @@ survey-net-requires c κs = search needs
 returns : tie.Need-returns
 returns c =
     let g = c .before .before .before in
-    let net = g .args .t1 in
+    let net = g .args .net in
     let ws = g .args .words .now in
     let e = c .before .survey-net .ensures .lost-are in
     let p : 0 < lost net = omega (arith, e, c .if1 .taken) in
@@ -37,35 +35,29 @@ is-shaped-requires c κs = search needs
 returns-2 : tie.Need-returns-2
 returns-2 c =
     let g = c .before .before .before .before .before in
-    let net = g .args .t1 in
+    let net = g .args .net in
     let ws = g .args .words .now in
     judged-ends net (bindings ws) (sym (c .before .before .before .survey-net .ensures .lost-are) ∙ c .before .before .if1 .left) (shaped-same (net .start) (net .end) ws (g .args .n) (g .pre .1) ∙ sym (c .before .is-shaped .ensures) ∙ not-true (c .before .is-shaped .result) (c .if2 .taken))
 
 first-missing-requires : tie.Need-first-missing-requires
-first-missing-requires c κs =
-    let g = c .before .before .before .before .before .before .before .before .before .before .before .before .before .before in
-    (orderly-arrays (g .args .t1) (g .pre .0) Input, (orderly-arrays (g .args .t1) (g .pre .0) Output, g .pre .1))
+first-missing-requires c κs = search needs
 
 returns-3 : tie.Need-returns-3
 returns-3 c =
-    let g = c .before .before .before .before .before .before .before .before .before .before .before .before .before .before .before .before in
-    let net = g .args .t1 in
+    let g = c .before .before .before .before .before .before .before in
+    let net = g .args .net in
     let ws = g .args .words .now in
-    let w = sym (c .before .before .before .before .before .before .before .before .before .before .before .before .before .before .survey-net .ensures .lost-are) ∙ c .before .before .before .before .before .before .before .before .before .before .before .before .before .if1 .left in
-    let h = shaped-same (net .start) (net .end) ws (g .args .n) (g .pre .1) ∙ sym (c .before .before .before .before .before .before .before .before .before .before .before .before .is-shaped .ensures) ∙ not-false (c .before .before .before .before .before .before .before .before .before .before .before .before .is-shaped .result) (c .before .before .before .before .before .before .before .before .before .before .before .if2 .left) in
-    judged-missing net (bindings ws) w h (c .before .first-missing .result) (c .before .first-missing .ensures (net .start) (net .end)) (c .if3 .taken)
+    judged-missing net (bindings ws) (sym (c .before .before .before .before .before .survey-net .ensures .lost-are) ∙ c .before .before .before .before .if1 .left) (shaped-same (net .start) (net .end) ws (g .args .n) (g .pre .1) ∙ sym (c .before .before .before .is-shaped .ensures) ∙ not-false (c .before .before .before .is-shaped .result) (c .before .before .if2 .left)) (c .before .first-missing .result) (c .before .first-missing .ensures) (c .if3 .taken)
 
 run-judged-requires : tie.Need-run-judged-requires
 run-judged-requires c κs = search needs
 
 returns-4 : tie.Need-returns-4
 returns-4 c =
-    let g = c .before .before .before .before .before .before .before .before .before .before .before .before .before .before .before .before .before in
-    let net = g .args .t1 in
+    let g = c .before .before .before .before .before .before .before .before in
+    let net = g .args .net in
     let ws = g .args .words .now in
-    let w = sym (c .before .before .before .before .before .before .before .before .before .before .before .before .before .before .before .survey-net .ensures .lost-are) ∙ c .before .before .before .before .before .before .before .before .before .before .before .before .before .before .if1 .left in
-    let h = shaped-same (net .start) (net .end) ws (g .args .n) (g .pre .1) ∙ sym (c .before .before .before .before .before .before .before .before .before .before .before .before .before .is-shaped .ensures) ∙ not-false (c .before .before .before .before .before .before .before .before .before .before .before .before .before .is-shaped .result) (c .before .before .before .before .before .before .before .before .before .before .before .before .if2 .left) in
-    judged-run net (bindings ws) w h (sym (c .before .before .first-missing .ensures (net .start) (net .end)) ∙ c .before .if3 .left) (c .run-judged .ensures)
+    judged-run net (bindings ws) (sym (c .before .before .before .before .before .before .survey-net .ensures .lost-are) ∙ c .before .before .before .before .before .if1 .left) (shaped-same (net .start) (net .end) ws (g .args .n) (g .pre .1) ∙ sym (c .before .before .before .before .is-shaped .ensures) ∙ not-false (c .before .before .before .before .is-shaped .result) (c .before .before .before .if2 .left)) (sym (c .before .before .first-missing .ensures) ∙ c .before .if3 .left) (c .run-judged .ensures)
 
 pub judge-positions-spec : {M : Type 1} → statement M
 judge-positions-spec =
