@@ -37,7 +37,7 @@ pub record TracePositions (trace : List ℕ) (n : ℕ) : Type 0 where
   pub few : n ≤ positions
   pub activities-only : (i : ℕ) → i < n → getD trace i 0 < activities
 
--- what each answer of the test of limits says of the call, where `rest` is what the rest of its chain says
+-- what each answer of the test of limits means for the call, where `rest` is what the rest of its chain says
 abbrev pub limitsMeans : Limited → Says → Says
 limitsMeans (Within n) rest = rest
 limitsMeans (Beyond n p) rest = refused n p
