@@ -1,13 +1,13 @@
 -- The refusals of reading row r of a log, as sentences for each line (01, "The tables" and "Refused, lowest number first"). Line 0
 -- stands for the whole file, the row asked for and the buffer; line 1 is the header, and row r is on line r + 1.
-use Prim.Native.Nat.{ℕ, zero, suc, _+_, _-_, _≤_, _<_}
+use Prim.Native.Nat.{ℕ, zero, suc, _+_, _≤_, _<_}
 use mathlib.Core.Path.{_≡_}
 use mathlib.Core.Logic.{_⊎_}
 use mathlib.Core.List.{List, [], _∷_, map, List·Memᴰ}
-use lib.ListN.{length, getD}
+use lib.ListN.{length}
 use Rattle.obligations.specs.Limits.{positions}
 use Rattle.text.specs.Bytes.{count}
-use Rattle.text.specs.Lines.{lines}
+use Rattle.text.specs.Lines.{HasLine, lineAt}
 use Rattle.text.specs.Fields.{comma, space, split, join}
 use Rattle.text.specs.Decimal.{printNumber}
 use Rattle.text.specs.Members.{highest}
@@ -21,8 +21,8 @@ use Rattle.logfile.specs.LogFile.{logHeader}
 -- line n of a text, counted from 1, is l
 pub record LineIs (text : List ℕ) (n : ℕ) (l : List ℕ) : Type 0 where
   pub low : 1 ≤ n
-  pub high : n ≤ length (lines text)
-  pub there : getD (lines text) (n - 1) [] ≡ l
+  pub high : HasLine text n
+  pub there : lineAt text n ≡ l
 
 -- a trace as printed: activities with one space between them, and no byte if there are none
 abbrev pub traceText : List ℕ → List ℕ

@@ -18,7 +18,7 @@ use Rattle.obligations.specs.Limits.{activities}
 use Rattle.obligations.specs.Tests.{indicator}
 use Rattle.obligations.proofs.BoolLaws.{false-not-true}
 use Rattle.text.specs.Bytes.{sameBytes}
-use Rattle.text.specs.Lines.{lines}
+use Rattle.text.specs.Lines.{lines, HasLine, lineAt}
 use Rattle.text.proofs.ByteLaws.{same-exactly}
 use Rattle.net.specs.Refusals.{Says, accepted, refused, bad-ends, disorderly, outside-limits, no-activity, misplaced-set, full-side, line-form, number-form}
 use Rattle.net.specs.Limits.{sets}
@@ -38,7 +38,7 @@ use Rattle.net.proofs.PutLaws.{put-start, put-end, put-orderly, put-on-side}
 use Rattle.net.proofs.RefusalLaws.{put-listed}
 use Rattle.netfile.specs.Limits.{netBytes}
 use Rattle.netfile.specs.NetFile.{netHeader, startWord, endWord, readEnd, readRow, rowSays, rowGives, refusedAt, readRows, afterEnd, fromEnd, afterStart, fromStart, fromHeader, readNet}
-use Rattle.netfile.specs.Refusals.{HasLine, lineAt, IsEnd, IsRow, HoldsEmpty, MisplacedRow, RowUpTo, FullSide, netRefusals}
+use Rattle.netfile.specs.Refusals.{IsEnd, IsRow, HoldsEmpty, MisplacedRow, RowUpTo, FullSide, netRefusals}
 use Rattle.netfile.specs.declared.line.EndLine.{EndLine}
 use Rattle.netfile.specs.declared.line.RowLine.{RowLine}
 use Rattle.netfile.proofs.RowLaws.{row-commas as row-commas-said}

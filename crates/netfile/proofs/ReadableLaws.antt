@@ -11,7 +11,7 @@ use lib.ListN.{length, getD, drop}
 use Rattle.obligations.specs.Limits.{activities}
 use Rattle.obligations.proofs.BoolLaws.{true-or-false, false-not-true}
 use Rattle.obligations.proofs.SetLaws.{lt-or-le}
-use Rattle.text.specs.Lines.{lines}
+use Rattle.text.specs.Lines.{lines, HasLine, lineAt}
 use Rattle.net.specs.Refusals.{Says, accepted, refused, outside-limits}
 use Rattle.net.specs.Limits.{sets}
 use Rattle.net.specs.Sentences.{NoneHolds}
@@ -30,7 +30,7 @@ use Rattle.net.proofs.WithinLaws.{contained-same}
 use Rattle.net.proofs.SentenceLaws.{ToldFrom, passed-all, stopped-on, accepted-not-refused}
 use Rattle.netfile.specs.Limits.{netBytes}
 use Rattle.netfile.specs.NetFile.{startWord, endWord, Reading, readNet}
-use Rattle.netfile.specs.Refusals.{HasLine, lineAt, IsEnd, IsRow, ActivityWrong, RowFormWrong, MembersWrong, HoldsEmpty, netRefusals}
+use Rattle.netfile.specs.Refusals.{IsEnd, IsRow, ActivityWrong, RowFormWrong, MembersWrong, HoldsEmpty, netRefusals}
 use Rattle.netfile.specs.Statements.{HasRow, Readable, SameRows}
 use Rattle.netfile.proofs.FileLaws.{read-long}
 use Rattle.netfile.proofs.PutRowLaws.{same-empty}

@@ -1,14 +1,14 @@
 -- The refusals of net reading as sentences, by line (01, "The tables" and "Refused, lowest number first"). The first line of which
 -- a sentence holds decides, so no sentence says again that the lines before its own are right. What a start row, an end row and a
 -- set's row are is said by the texts that the writer writes.
-use Prim.Native.Nat.{ℕ, zero, suc, _-_, _≤_, _<_}
+use Prim.Native.Nat.{ℕ, zero, suc, _≤_, _<_}
 use mathlib.Core.Path.{_≡_}
 use mathlib.Core.List.{List, [], _∷_}
 use mathlib.Core.Logic.{_⊎_}
 use lib.ListN.{length, getD}
 use Rattle.obligations.specs.Limits.{activities, masks}
 use Rattle.text.specs.Bytes.{count}
-use Rattle.text.specs.Lines.{lines}
+use Rattle.text.specs.Lines.{HasLine, lineAt}
 use Rattle.text.specs.Fields.{comma, split}
 use Rattle.text.specs.Decimal.{printNumber}
 use Rattle.text.specs.Members.{printMembers}
@@ -21,14 +21,7 @@ use Rattle.net.specs.declared.Side.the-variants.{Input, Output}
 use Rattle.netfile.specs.Limits.{netBytes}
 use Rattle.netfile.specs.NetFile.{netHeader, startWord, endWord, sideWord, endText, rowText}
 
--- ---- lines and their fields
-
--- the text has a line n, counted from 1, and that line
-abbrev pub HasLine : List ℕ → ℕ → Type 0
-HasLine text n = n ≤ length (lines text)
-
-abbrev pub lineAt : List ℕ → ℕ → List ℕ
-lineAt text n = getD (lines text) (n - 1) []
+-- ---- a line and its fields
 
 -- the parts of a line with two commas: its word, its number and what follows the second comma
 abbrev pub wordOf : List ℕ → List ℕ
