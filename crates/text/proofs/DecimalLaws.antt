@@ -10,11 +10,13 @@ use native.Mathlib.Nat.{pow-suc, zero-add, eq-or-lt-of-le}
 use native.Mathlib.Omega.{arith}
 use borrow.Author.Tests.{le-leb, ne-eqb, leb-true, ltb-true, ltb-false, le-ltb, eqb-false, not-true}
 use lib.Dec.{leb, ltb, eqb}
+use lib.ListN.{length}
 use Rattle.obligations.proofs.BoolLaws.{and-left, and-right}
+use Rattle.obligations.proofs.SetLaws.{lt-or-le}
 use Rattle.text.specs.Bytes.{count}
 use Rattle.text.specs.Decimal.{isDigit, allDigits, valueFrom, value, wellLed, isNumber, parseNumber, allNumbers, values, digit, decimal, printNumber}
 use Rattle.text.specs.declared.decimal.Number.the-variants.{Value, Refused}
-use Rattle.text.proofs.DigitLaws.{value-grows, decimal-low}
+use Rattle.text.proofs.DigitLaws.{value-grows, decimal-low, number-full, number-below}
 
 -- ---- what an answer says of its field
 
@@ -121,6 +123,10 @@ pub number-free : (c n : ℕ) → c < 48 → count c (printNumber n) ≡ 0
 unfolding printNumber
 number-free c n h = digits-free c (decimal 19 n) h (decimal-digits 19 n)
 
+pub numbers-free : (c : ℕ) → c < 48 → (ks : List ℕ) (q : List ℕ) → List·Memᴰ q (map printNumber ks) → count c q ≡ 0
+numbers-free c h [] q m = absurd (List·Memᴰ·not-nil m)
+numbers-free c h (k ∷ ks) q m = ⊎-elim (λ e. rw e (number-free c k h)) (λ t. numbers-free c h ks q t) (List·Memᴰ·cases-cons m)
+
 -- ---- what is read is the print of its value
 
 -- room for a digit that isn't there changes nothing
@@ -187,3 +193,18 @@ printed-fields limit (k ∷ ks) h m =
     let l = m k (List·Memᴰ·head refl) in
     let r = printed-fields limit ks h (λ j t. m j (List·Memᴰ·tail t)) in
     (rw (print-number limit k l (omega arith)) (r .0), ap₂ (λ (j : ℕ) (js : List ℕ). j ∷ js) (print-value k (omega arith)) (r .1))
+
+-- ---- what is printed twice is one number
+
+-- the print of a number with at most 19 digits is the print of no other number
+pub print-once : (k n : ℕ) → n < 10 ^ 19 → printNumber k ≡ printNumber n → k ≡ n
+print-once k n h e =
+    ⊎-elim (λ l. sym (print-value k l) ∙ ap value e ∙ print-value n (omega arith)) (λ l. absurd (omega (arith, number-full k (omega arith), number-below 18 n h, ap length e)))
+    (lt-or-le k (10 ^ 20))
+
+pub prints-once : (ks ns : List ℕ) → ((n : ℕ) → List·Memᴰ n ns → n < 10 ^ 19) → map printNumber ks ≡ map printNumber ns → ks ≡ ns
+prints-once [] [] m e = refl
+prints-once [] (n ∷ ns) m e = let z : _≡_ {A = ℕ} 0 1 = cc in absurd (omega arith)
+prints-once (k ∷ ks) [] m e = let z : _≡_ {A = ℕ} 0 1 = cc in absurd (omega arith)
+prints-once (k ∷ ks) (n ∷ ns) m e =
+    ap₂ (λ (j : ℕ) (js : List ℕ). j ∷ js) (print-once k n (m n (List·Memᴰ·head refl)) (cc)) (prints-once ks ns (λ j t. m j (List·Memᴰ·tail t)) (cc))

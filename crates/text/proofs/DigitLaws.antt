@@ -5,7 +5,7 @@ use mathlib.Core.Path.{_≡_, refl, ap, _∙_}
 use mathlib.Core.Logic.{⊎-elim}
 use mathlib.Core.Bool.{Bool, true, false, _&&_, and-false, or-true, cond}
 use mathlib.Core.List.{List, [], _∷_, _++_}
-use native.Mathlib.Nat.{pow-suc}
+use native.Mathlib.Nat.{pow-suc, one-le-pow}
 use native.Mathlib.Omega.{arith}
 use borrow.Author.Tests.{le-leb, lt-leb, eq-eqb, ne-eqb, leb-true, leb-false, lt-ltb, le-ltb}
 use lib.Dec.{leb, ltb}
@@ -147,6 +147,31 @@ number-within n = decimal-within 19 n
 
 pub number-below-100 : (n : ℕ) → n < 100 → length (printNumber n) ≤ 2
 number-below-100 n h = number-below 1 n h
+
+-- a number of 20 digits or more is printed in 20
+decimal-full : (f n : ℕ) → 10 ^ f ≤ n → length (decimal f n) ≡ suc f
+decimal-full zero n h = refl
+decimal-full (suc f) n h =
+    let p : 10 ^ f * 10 ≤ n = rw (pow-suc 10 f) at h in
+    let o : 1 ≤ 10 ^ f = one-le-pow f 10 (omega arith) in
+    rw (le-ltb n 10 (omega arith)) (length-append (decimal f (n / 10)) (digit n ∷ []) ∙ omega (arith, decimal-full f (n / 10) (omega arith)))
+
+pub number-full : (n : ℕ) → 10 ^ 19 ≤ n → length (printNumber n) ≡ 20
+unfolding printNumber
+number-full n h = decimal-full 19 n h
+
+-- and every number in at least one
+decimal-some : (f n : ℕ) → 1 ≤ length (decimal f n)
+decimal-some zero n = omega arith
+decimal-some (suc f) n = go (ltb n 10)
+  where
+    go : (t : Bool) → 1 ≤ length (cond t (digit n ∷ []) (decimal f (n / 10) ++ (digit n ∷ [])))
+    go true = omega arith
+    go false = omega (arith, length-append (decimal f (n / 10)) (digit n ∷ []))
+
+pub number-some : (n : ℕ) → printNumber n ≡ [] → ⊥
+unfolding printNumber
+number-some n e = omega (arith, decimal-some 19 n, ap length e)
 
 -- width digits of n are counted up to the last of rest
 pub record Counting (n width rest : ℕ) : Type 0 where

@@ -7,7 +7,7 @@ use mathlib.Core.Logic.{_↔_, _⊎_, inl, inr}
 use mathlib.Core.Bool.{Bool, true, false, cond}
 use mathlib.Core.List.{List, [], _∷_, _++_, append-nil, List·Memᴰ, List·Memᴰ·head, List·Memᴰ·tail}
 use native.Mathlib.Omega.{arith}
-use borrow.Author.Tests.{eq-eqb, eqb-true}
+use borrow.Author.Tests.{eq-eqb, ne-eqb, eqb-true}
 use lib.Dec.{eqb}
 use lib.ListN.{length, take, drop}
 use lib.Seq.{slice, drop-drop, length-slice}
@@ -15,7 +15,7 @@ use Rattle.obligations.specs.Tests.{indicator}
 use Rattle.obligations.proofs.SetLaws.{lt-or-le}
 use Rattle.text.specs.Bytes.{before, count}
 use Rattle.text.specs.Fields.{onto, split, led, join}
-use Rattle.text.proofs.ByteLaws.{slice-take, before-le, count-none-head, count-none-tail}
+use Rattle.text.proofs.ByteLaws.{slice-take, before-le, count-append, count-none-head, count-none-tail}
 
 -- ---- the first part, and the others
 
@@ -125,6 +125,16 @@ module _ (c : ℕ) (s : List ℕ) (at e j k : ℕ) (h : at ≤ e) (t : e ≤ len
       part-inside c s (j + 1) e k (omega arith) t r (omega (arith, rest-count c s at e j h t q u))
 
 -- ---- what was joined
+
+-- parts without a byte, joined by another, are a text without it
+led-free : (c d : ℕ) → (c ≡ d → ⊥) → (ps : List (List ℕ)) → ((q : List ℕ) → List·Memᴰ q ps → count c q ≡ 0) → count c (led d ps) ≡ 0
+led-free c d n [] h = refl
+led-free c d n (p ∷ ps) h =
+    rw (ne-eqb d c (λ e. n (sym e))) (omega (arith, count-append c p (led d ps), h p (List·Memᴰ·head refl), led-free c d n ps (λ q m. h q (List·Memᴰ·tail m))))
+
+pub join-free : (c d : ℕ) → (c ≡ d → ⊥) → (ps : List (List ℕ)) → ((q : List ℕ) → List·Memᴰ q ps → count c q ≡ 0) → count c (join d ps) ≡ 0
+join-free c d n [] h = refl
+join-free c d n (p ∷ ps) h = omega (arith, count-append c p (led d ps), h p (List·Memᴰ·head refl), led-free c d n ps (λ q m. h q (List·Memᴰ·tail m)))
 
 -- a part without the separator, and what follows its separator
 pub split-field : (c : ℕ) (p t : List ℕ) → count c p ≡ 0 → split c (p ++ c ∷ t) ≡ p ∷ split c t

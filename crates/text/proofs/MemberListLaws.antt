@@ -7,7 +7,7 @@ use mathlib.Core.Logic.{_↔_, _⊎_, inl, inr, ⊎-elim}
 use mathlib.Core.Bool.{Bool, true, false, _&&_, or-true, and-false, cond}
 use mathlib.Core.List.{List, [], _∷_, map, List·Memᴰ, List·Memᴰ·head, List·Memᴰ·tail, List·Memᴰ·cases-cons, List·Memᴰ·not-nil}
 use native.Mathlib.Omega.{arith}
-use borrow.Author.Tests.{le-leb, lt-leb, eq-eqb, ne-eqb, eqb-true, leb-true}
+use borrow.Author.Tests.{le-leb, lt-leb, eq-eqb, eqb-true, leb-true}
 use lib.Bits.{bitAnd}
 use lib.Count.{trailingZeros}
 use lib.Dec.{leb, eqb}
@@ -24,10 +24,9 @@ use Rattle.text.specs.Members.{highest, ascendsFrom, withAll, areMembers
 use Rattle.text.specs.declared.decimal.Number.the-variants as number
 use Rattle.text.specs.declared.members.Members.{Members}
 use Rattle.text.specs.declared.members.Members.the-variants.{Set, Refused}
-use Rattle.text.proofs.ByteLaws.{count-append}
-use Rattle.text.proofs.FieldLaws.{part-head, part-last, part-more, split-join, join-split, length-split}
+use Rattle.text.proofs.FieldLaws.{part-head, part-last, part-more, split-join, join-split, length-split, join-free}
 use Rattle.text.proofs.DigitLaws.{number-below-100}
-use Rattle.text.proofs.DecimalLaws.{number-value, number-refused, values-most, number-free, fields-printed, printed-fields}
+use Rattle.text.proofs.DecimalLaws.{number-value, number-refused, values-most, fields-printed, printed-fields, numbers-free}
 
 -- ---- reading field by field
 
@@ -141,27 +140,15 @@ all-members m h = set-ext (withAll 0 (members m)) m (all-lt 0 (members m) (omega
     back : (k : ℕ) → k < 32 → member m k ≡ true → member (withAll 0 (members m)) k ≡ true
     back k l t = member-all 0 (members m) k (member-below m) (inr (members-are m k .1 (l, t)))
 
--- printed members hold no byte below 48, and joined by a space none but that
-printed-free : (c : ℕ) → c < 48 → (ks : List ℕ) (q : List ℕ) → List·Memᴰ q (map printNumber ks) → count c q ≡ 0
-printed-free c h [] q m = absurd (List·Memᴰ·not-nil m)
-printed-free c h (k ∷ ks) q m = ⊎-elim (λ e. rw e (number-free c k h)) (λ t. printed-free c h ks q t) (List·Memᴰ·cases-cons m)
-
-led-free : (c : ℕ) → c < 48 → (c ≡ space → ⊥) → (ks : List ℕ) → count c (led space (map printNumber ks)) ≡ 0
-led-free c h n [] = refl
-led-free c h n (k ∷ ks) = rw (ne-eqb space c (λ e. n (sym e))) (omega (arith, count-append c (printNumber k) (led space (map printNumber ks)), number-free c k h, led-free c h n ks))
-
+-- printed members, joined by a space, hold no byte below 48 but that
 pub members-free : (c m : ℕ) → c < 48 → (c ≡ space → ⊥) → count c (printMembers m) ≡ 0
 unfolding printMembers
-members-free c m h n = go (members m)
-  where
-    go : (ks : List ℕ) → count c (join space (map printNumber ks)) ≡ 0
-    go [] = refl
-    go (k ∷ ks) = omega (arith, count-append c (printNumber k) (led space (map printNumber ks)), number-free c k h, led-free c h n ks)
+members-free c m h n = join-free c space n (map printNumber (members m)) (numbers-free c h (members m))
 
 -- the fields of a printed member list
 pub split-members : (m : ℕ) → 0 < m → m < 2 ^ 32 → split space (printMembers m) ≡ map printNumber (members m)
 unfolding printMembers
-split-members m h u = rw (members-walk m h u) (split-join space (printNumber (trailingZeros 32 m)) (map printNumber (members (bitAnd m (m - 1)))) (λ q t. printed-free space (omega arith) (trailingZeros 32 m ∷ members (bitAnd m (m - 1))) q t))
+split-members m h u = rw (members-walk m h u) (split-join space (printNumber (trailingZeros 32 m)) (map printNumber (members (bitAnd m (m - 1)))) (numbers-free space (omega arith) (trailingZeros 32 m ∷ members (bitAnd m (m - 1)))))
 
 -- reading a set's printed member list gives the set; the empty set's is empty, which is no member list
 pub parse-print-members : (m : ℕ) → 0 < m → m < 2 ^ 32 → parseMembers (printMembers m) ≡ Set m
