@@ -145,11 +145,6 @@ module _ (text : List ℕ) (r room : ℕ) where
   abbrev Answer : ℕ → RowSays → Type 0
   Answer line said = (value : RowSays) × ((n p : ℕ) → value ≡ refusal n p → ⊥) × ToldFrom refusal sentences value line said
 
-  -- every sentence of a line has place 0
-  line-places : (n number place : ℕ) → InOrder (lineRefusals text r n) number place → place ≡ 0
-  unfolding InOrder
-  line-places n number place o = ⊎-elim (λ h. h .1 .at-none) (λ h. ⊎-elim (λ k. k .1 .at-none) (λ k. ⊎-elim (λ j. j .1 .at-none) (λ j. absurd (j .1)) (k .1)) (h .1)) o
-
   -- where a line is past row r's, or isn't there, none holds
   line-none : (n : ℕ) → ((l : List ℕ) → LineIs text n l → n ≤ r + 1 → ⊥) → NoneHolds (lineRefusals text r n)
   line-none n f number place =
@@ -170,7 +165,7 @@ module _ (text : List ℕ) (r room : ℕ) where
       let w = line-chain text r (suc (suc i)) l (rest-line text (suc i) l ls d .0) (omega arith) in (
         readingSays (row (w .0) (w .1)),
         row-answers (w .0) (w .1),
-        line-told refusal sentences _ (faultOn (suc (suc i))) (row (w .0) (w .1)) (readLine (suc (suc i)) l) (suc (suc i)) readingSays (λ n p. refl) (w .2) (line-places (suc (suc i)))
+        line-told refusal sentences _ (faultOn (suc (suc i))) (row (w .0) (w .1)) (readLine (suc (suc i)) l) (suc (suc i)) readingSays (λ n p. refl) (w .2) refl
             (λ q. passed-all (none-from (suc (suc (suc i))) (omega arith) (λ m j u at v. omega arith))),
       )
   rows-told i (suc k) (l ∷ ls) d e =
@@ -179,7 +174,7 @@ module _ (text : List ℕ) (r room : ℕ) where
       let next = rows-told (suc i) k ls (a .1) (omega arith) in (
         next .0,
         next .1,
-        line-told refusal sentences (next .0) (faultOn (suc (suc i))) (row (w .0) (w .1)) (readLine (suc (suc i)) l) (suc (suc i)) (λ x. readingSays (past x (rowAfter (suc (suc i) + 1) k ls))) (λ n p. refl) (w .2) (line-places (suc (suc i)))
+        line-told refusal sentences (next .0) (faultOn (suc (suc i))) (row (w .0) (w .1)) (readLine (suc (suc i)) l) (suc (suc i)) (λ x. readingSays (past x (rowAfter (suc (suc i) + 1) k ls))) (λ n p. refl) (w .2) refl
             (λ q. rw (add-one (suc (suc i))) (next .2)),
       )
 

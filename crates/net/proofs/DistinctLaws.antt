@@ -1,19 +1,19 @@
 -- Laws of lists in which no element occurs twice: such a list is no longer than one that holds its elements, since each of them
 -- can be crossed out there once; an ascending list is such a list. So the number of sets with a property is at most n exactly if
 -- a list of just them, none twice, is at most so long. Assumes nothing.
-use Prim.Native.Nat.{ℕ, suc, _≤_, _<_}
+use Prim.Native.Nat.{ℕ, suc, _≤_}
 use native.Mathlib.Decide.{ℕ-discrete as decEq}
 use native.Mathlib.Omega.{arith}
 use mathlib.Core.Path.{_≡_, refl, sym, subst, _∙_}
-use mathlib.Core.Bool.{Bool, true, false, not, _&&_, _||_, cond}
+use mathlib.Core.Bool.{true, false, not, cond}
 use mathlib.Core.List.{List, [], _∷_}
 use mathlib.Core.Logic.{_↔_, ⊎-elim}
 use lib.Dec.{eqb}
 use lib.ListN.{length}
 use borrow.Author.Tests.{eqb-true, eq-eqb, ne-eqb, not-true}
-use Rattle.obligations.proofs.BoolLaws.{and-left, and-right, and-both, or-right, or-cases, false-not-true}
+use Rattle.obligations.proofs.BoolLaws.{and-left, and-right, or-right, or-cases, false-not-true}
 use Rattle.net.specs.Lists.{listed, distinct, AtMost, ascendsAbove}
-use Rattle.net.proofs.ListLaws.{none-listed, listed-first, listed-later, ascends-tail, ascends-not-listed}
+use Rattle.net.proofs.ListLaws.{listed-first, listed-later, ascends-tail, ascends-not-listed}
 
 -- ---- crossing out
 
@@ -67,6 +67,10 @@ ascending-distinct p (x ∷ xs) a =
     let t = ascends-tail p x xs a in rw (ascends-not-listed x x xs (omega arith) t, ascending-distinct x xs t)
 
 -- ---- how many have a property
+
+-- fewer have a property that says more
+pub fewer : (n : ℕ) (P Q : ℕ → Type 0) → ((m : ℕ) → P m → Q m) → AtMost n Q → AtMost n P
+fewer n P Q f h ms d g = h ms d (λ m i. f m (g m i))
 
 -- a list without an element twice, which are just those with the property, says how many have it
 pub at-most-listed : (n : ℕ) (P : ℕ → Type 0) (l : List ℕ) → distinct l ≡ true → ((m : ℕ) → P m ↔ (listed m l ≡ true)) → (length l ≤ n) ↔ AtMost n P

@@ -1,5 +1,6 @@
 -- The laws of the definitions in specs/, by concept.
 pub mod SentenceLaws
+pub mod ChainLaws
 pub mod BelowLaws
 pub mod ListLaws
 pub mod InsertLaws

@@ -8,7 +8,7 @@ use mathlib.Core.Bool.{Bool, true, false, cond, not, _&&_, _||_, or-false, or-co
 use mathlib.Core.Logic.{_⊎_, inl, inr, ⊎-elim, _↔_}
 use mathlib.Core.List.{List, [], _∷_}
 use lib.Dec.{eqb}
-use lib.ListN.{length, getD, set, List·getD-eq-default}
+use lib.ListN.{length, getD, List·getD-eq-default}
 use borrow.Author.Tests.{eqb-true, eqb-false, not-false, eq-eqb, ne-eqb}
 use Rattle.obligations.specs.Limits.{activities}
 use Rattle.obligations.specs.Tests.{indicator}

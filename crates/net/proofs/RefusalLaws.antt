@@ -1,26 +1,26 @@
 -- Fresh, put and containment answer as their refusals are listed: each test of a call's chain fails exactly where its sentence
 -- holds. Assumes nothing.
-use Prim.Native.Nat.{ℕ, zero, suc, _≤_, _<_}
+use Prim.Native.Nat.{ℕ, zero, suc, _<_}
 use native.Mathlib.Decide.{ℕ-discrete as decEq}
 use native.Mathlib.Omega.{arith}
-use mathlib.Core.Path.{_≡_, refl, sym, subst, _∙_}
-use mathlib.Core.Bool.{Bool, true, false, not, _&&_, _||_, cond}
+use mathlib.Core.Path.{_≡_, refl, sym}
+use mathlib.Core.Bool.{Bool, true, false, not, _||_, cond}
 use mathlib.Core.List.{List, [], _∷_}
 use mathlib.Core.Logic.{_↔_, _⊎_, inl, inr, ⊎-elim}
 use lib.Dec.{eqb, ltb}
-use lib.ListN.{length, getD}
-use borrow.Author.Tests.{eqb-true, eqb-false, eq-eqb, ne-eqb, ltb-true, ltb-false, lt-ltb, not-true, not-false}
+use lib.ListN.{getD}
+use borrow.Author.Tests.{eqb-true, eqb-false, eq-eqb, ne-eqb, ltb-true, ltb-false, not-true, not-false}
 use Rattle.obligations.specs.Limits.{activities}
 use Rattle.obligations.specs.Tests.{indicator}
-use Rattle.obligations.proofs.BoolLaws.{true-or-false, false-not-true, and-left, and-right, or-cases, or-neither}
+use Rattle.obligations.proofs.BoolLaws.{true-or-false, false-not-true, or-cases}
 use Rattle.net.specs.Limits.{sets}
 use Rattle.net.specs.Refusals.{Says, accepted, refused, bad-ends, disorderly, no-activity, misplaced-set, full-side}
-use Rattle.net.specs.Sentences.{Sentence, whole, first, First, AsListed}
+use Rattle.net.specs.Sentences.{AsListed}
 use Rattle.net.specs.Lists.{listed, distinct, AtMost}
 use Rattle.net.specs.Sides.{masksOf, lengthsOf, emptyAt, setsOn, OnSide}
 use Rattle.net.specs.Orderly.{Orderly, endsOk, orderly}
 use Rattle.net.specs.Fresh.{BadEnds, freshRefusals, freshSays}
-use Rattle.net.specs.Put.{Misplaced, Exceeds, putRefusals, misplaced, sideSays, putSays}
+use Rattle.net.specs.Put.{Misplaced, putRefusals, misplaced, sideSays, putSays}
 use Rattle.net.specs.Contained.{ofTwo, containedRefusals, contained, containedSays}
 use Rattle.net.specs.declared.Net.{Net}
 use Rattle.net.specs.declared.Side.{Side}
@@ -54,7 +54,7 @@ fresh-listed start end =
 
 -- ---- put
 
-misplaced-exactly : (net : Net) (side : Side) (a m : ℕ) → (misplaced (emptyAt net side) a m ≡ true) ↔ Misplaced net side a m
+pub misplaced-exactly : (net : Net) (side : Side) (a m : ℕ) → (misplaced (emptyAt net side) a m ≡ true) ↔ Misplaced net side a m
 unfolding misplaced
 misplaced-exactly net side a m = elim (decEq m 0) [
   | yes e ↦ (
@@ -80,7 +80,7 @@ module _ (net : Net) (o : orderly net ≡ true) (side : Side) (a : ℕ) (h : a <
   ]
 
   -- how many sets a side has together with m
-  room-exactly : (m : ℕ) → (listed m (setsOn net side a) || not (eqb (getD (lengthsOf net side) a 0) sets) ≡ true) ↔ AtMost sets (λ x. OnSide net side a x ⊎ (x ≡ m))
+  pub room-exactly : (m : ℕ) → (listed m (setsOn net side a) || not (eqb (getD (lengthsOf net side) a 0) sets) ≡ true) ↔ AtMost sets (λ x. OnSide net side a x ⊎ (x ≡ m))
   room-exactly m = elim (true-or-false (listed m (setsOn net side a))) [
     | inl t ↦
         let w = at-most-listed sets (λ x. OnSide net side a x ⊎ (x ≡ m)) (setsOn net side a) side-distinct (λ x. (⊎-elim (λ i. i) (λ e. rw e t), inl)) in

@@ -3,18 +3,18 @@
 -- list; where it fails, its sentence holds at the place returned. So the answer is the first sentence of the list that holds.
 -- As the numbers ascend along the list, that is the lowest; and as each sentence has one place, no other answer is as listed.
 -- Of a file the same is done line by line. Assumes nothing.
-use Prim.Native.Nat.{ℕ, zero, suc, _+_, _≤_, _<_}
+use Prim.Native.Nat.{ℕ, zero, suc, _≤_, _<_}
 use mathlib.Core.Path.{_≡_, refl, sym, ap, subst, _∙_}
 use mathlib.Core.Bool.{Bool, true, false, cond, _&&_}
 use mathlib.Core.List.{List, [], _∷_}
 use mathlib.Core.Logic.{_↔_, _⊎_, inl, inr, ⊎-elim}
 use native.Mathlib.Omega.{arith}
-use borrow.Author.Tests.{eqb-true, ne-eqb, ltb-true}
+use borrow.Author.Tests.{ne-eqb, ltb-true}
 use lib.Dec.{eqb, ltb}
 use Rattle.obligations.proofs.BoolLaws.{and-left, and-right, false-not-true}
 use Rattle.obligations.proofs.SetLaws.{lt-or-le}
 use Rattle.net.specs.Refusals.{Says, accepted, refused}
-use Rattle.net.specs.Sentences.{Whole, First, Lowest, Sentence, whole, first, lowest, numberOf, HoldsAt, Holds, NoneHolds, Listed, orderOnLine, ListedByLine, Answered, AsListed, AsListedByLine}
+use Rattle.net.specs.Sentences.{Whole, First, Lowest, Sentence, whole, first, lowest, numberOf, HoldsAt, Holds, NoneHolds, Listed, orderOnLine, ListedByLine, AsListed, AsListedByLine}
 
 -- ---- a place is determined by its sentence
 
@@ -31,6 +31,21 @@ place-unique : (s : Sentence) {p q : ℕ} → HoldsAt s p → HoldsAt s q → p 
 place-unique (whole n Bad) f g = f .at-none ∙ sym (g .at-none)
 place-unique (first n k Bad) f g = first-unique f g
 place-unique (lowest n Bad) f g = lowest-unique f g
+
+-- ---- sentences about a whole call or line
+
+pub holds-whole : {Bad : Type 0} → Bad → Whole Bad 0
+holds-whole b = record { bad = b; at-none = refl }
+
+pub not-whole : {Bad : Type 0} → (Bad → ⊥) → (place : ℕ) → Whole Bad place → ⊥
+not-whole f place w = f (w .bad)
+
+-- every sentence of a list is one
+abbrev pub allWhole : List Sentence → Bool
+allWhole [] = true
+allWhole (whole n Bad ∷ ss) = allWhole ss
+allWhole (first n k Bad ∷ ss) = false
+allWhole (lowest n Bad ∷ ss) = false
 
 -- ---- lists whose numbers ascend in an order
 
@@ -83,6 +98,14 @@ order-first rank k (s ∷ ss) a n p (inl o) m q l (inr h) =
 order-first rank k (s ∷ ss) a n p (inr o) m q l (inl h) = o .0 q (h .1)
 order-first rank k (s ∷ ss) a n p (inr o) m q l (inr h) = order-first rank (rank (numberOf s)) ss (and-right (ltb k (rank (numberOf s))) _ a) n p (o .1) m q l h
 
+-- of sentences about a whole line the one that holds has place 0
+whole-places : (ss : List Sentence) → allWhole ss ≡ true → (n p : ℕ) → InOrder ss n p → p ≡ 0
+unfolding InOrder
+whole-places [] w n p o = absurd o
+whole-places (whole k Bad ∷ ss) w n p o = ⊎-elim (λ h. h .1 .at-none) (λ h. whole-places ss w n p (h .1)) o
+whole-places (first k m Bad ∷ ss) w n p o = absurd (false-not-true refl w)
+whole-places (lowest k Bad ∷ ss) w n p o = absurd (false-not-true refl w)
+
 -- ---- chains
 
 -- an answer to a list: `value` where no sentence holds, else the first that does
@@ -112,7 +135,7 @@ module _ {A : Type 0} (refusal : ℕ → ℕ → A) (value : A) where
       → (test ≡ true → Bad → ⊥) → (test ≡ false → Bad) → (test ≡ true → Told refusal ss value rest)
       → Told refusal (whole n Bad ∷ ss) value (cond test rest (refusal n 0))
   whole-link n Bad ss test rest none some next =
-      told-link (whole n Bad) ss test 0 rest (λ e q h. none e (h .bad)) (λ e. record { bad = some e; at-none = refl }) next
+      told-link (whole n Bad) ss test 0 rest (λ e. not-whole (none e)) (λ e. holds-whole (some e)) next
 
   pub first-link : (n k : ℕ) (Bad : ℕ → Type 0) (ss : List Sentence) (place : ℕ) (rest : A)
       → (place ≡ 0 → (i : ℕ) → i < k → Bad i → ⊥) → ((i : ℕ) → place ≡ suc i → First k Bad (suc i)) → (place ≡ 0 → Told refusal ss value rest)
@@ -128,6 +151,12 @@ module _ {A : Type 0} (refusal : ℕ → ℕ → A) (value : A) where
     where
       stopped-here : First k Bad (suc i) → Told refusal (first n k Bad ∷ ss) value (refusal n (suc i))
       stopped-here f = stopped n (suc i) (inl (refl, f))
+
+-- an answer that is given by what a chain says
+pub told-map : {A B : Type 0} (refusal : ℕ → ℕ → A) (refusal′ : ℕ → ℕ → B) (f : A → B) → ((n p : ℕ) → f (refusal n p) ≡ refusal′ n p)
+    → (ss : List Sentence) (value answer : A) → Told refusal ss value answer → Told refusal′ ss (f value) (f answer)
+told-map refusal refusal′ f same ss value answer (passed none) = passed none
+told-map refusal refusal′ f same ss value answer (stopped n p o) = rw (same n p) (stopped n p o)
 
 -- ---- what a chain's answer shows
 
@@ -174,12 +203,12 @@ module _ {A : Type 0} (refusal : ℕ → ℕ → A) (ss : ℕ → List Sentence)
   pub line-stops : (line n : ℕ) → InOrder (ss line) n 0 → ToldFrom refusal ss value line (refusal n line)
   line-stops line n o = stopped-on n line (omega arith) (λ k a b. omega arith) o
 
-  -- one line's chain, whose answer says its number, and the lines after it
+  -- one line's chain, of sentences about the whole line, whose answer says its number; and the lines after it
   pub line-told : {B : Type 0} (stop : ℕ → ℕ → B) (go : B) (said : B) (line : ℕ) (answer : B → A) → ((n p : ℕ) → answer (stop n p) ≡ refusal n line)
-      → Told stop (ss line) go said → ((n p : ℕ) → InOrder (ss line) n p → p ≡ 0) → (said ≡ go → ToldFrom refusal ss value (suc line) (answer go)) → ToldFrom refusal ss value line (answer said)
-  line-told stop go said line answer same (passed none) zero-place next = line-passes line (answer go) none (next refl)
-  line-told stop go said line answer same (stopped n p o) zero-place next =
-      rw (same n p) (line-stops line n (subst (λ (x : ℕ). InOrder (ss line) n x) (zero-place n p o) o))
+      → Told stop (ss line) go said → allWhole (ss line) ≡ true → (said ≡ go → ToldFrom refusal ss value (suc line) (answer go)) → ToldFrom refusal ss value line (answer said)
+  line-told stop go said line answer same (passed none) w next = line-passes line (answer go) none (next refl)
+  line-told stop go said line answer same (stopped n p o) w next =
+      rw (same n p) (line-stops line n (subst (λ (x : ℕ). InOrder (ss line) n x) (whole-places (ss line) w n p o) o))
 
   module _ (same : (n m p q : ℕ) → refusal n p ≡ refusal m q → (n ≡ m) × (p ≡ q)) (accepts : (n p : ℕ) → value ≡ refusal n p → ⊥) (a : (l : ℕ) → ascends orderOnLine 0 (ss l) ≡ true) where
     same-line : {m n k l : ℕ} → ListedByLine ss m k → ListedByLine ss n l → k ≡ l

@@ -3,9 +3,9 @@ use Prim.Native.Nat.{ℕ}
 use native.Mathlib.Omega.{arith}
 use mathlib.Core.Path.{_≡_, refl, sym, ap}
 use mathlib.Core.Bool.{Bool, true, false, cond}
-use mathlib.Core.Logic.{_⊎_, inl, inr, ⊎-elim}
+use mathlib.Core.Logic.{_⊎_, ⊎-elim}
 use Rattle.obligations.proofs.BoolLaws.{true-or-false, false-not-true}
-use Rattle.net.specs.Refusals.{Says, accepted, refused}
+use Rattle.net.specs.Refusals.{Says, accepted}
 use Rattle.net.specs.Orderly.{Orderly, endsOk, orderly}
 use Rattle.net.specs.Fresh.{freshNet, freshSays, freshGives}
 use Rattle.net.specs.Put.{putSays, putGives}

@@ -68,9 +68,10 @@ module _ (x y : Net) (o : orderly x ≡ true) (q : orderly y ≡ true) (same : (
 
 -- ---- orderly nets that contain each other are equal
 
-same-empty : (x y : Net) → Contained x y → (side : Side) → emptyAt x side ≡ emptyAt y side
-same-empty x y f Input = f .same-start
-same-empty x y f Output = f .same-end
+-- nets with the same start and end have the empty set on the same sides
+pub same-empty : (x y : Net) (side : Side) → x .start ≡ y .start → x .end ≡ y .end → emptyAt x side ≡ emptyAt y side
+same-empty x y Input s e = s
+same-empty x y Output s e = e
 
 pub contained-same : (x y : Net) → orderly x ≡ true → orderly y ≡ true → Contained x y → Contained y x → x ≡ y
 contained-same x y o q f g = same-sides x y o q same (f .same-start) (f .same-end)
@@ -80,11 +81,11 @@ contained-same x y o q f g = same-sides x y o q same (f .same-start) (f .same-en
         let s = orderly-sides x o side in
         let t = orderly-sides y q side in
         elim (decEq a (emptyAt x side)) [
-          | yes e ↦ side-just-empty (masksOf x side) (lengthsOf x side) (emptyAt x side) s a h e ∙ sym (side-just-empty (masksOf y side) (lengthsOf y side) (emptyAt y side) t a h (e ∙ same-empty x y f side))
+          | yes e ↦ side-just-empty (masksOf x side) (lengthsOf x side) (emptyAt x side) s a h e ∙ sym (side-just-empty (masksOf y side) (lengthsOf y side) (emptyAt y side) t a h (e ∙ same-empty x y side (f .same-start) (f .same-end)))
           | no d ↦
               ascending-same 0 0 (setsOn x side a) (setsOn y side a)
               (plain-side-ok (masksOf x side) (lengthsOf x side) (emptyAt x side) s a h d .0)
-              (plain-side-ok (masksOf y side) (lengthsOf y side) (emptyAt y side) t a h (λ e. d (e ∙ sym (same-empty x y f side))) .0)
+              (plain-side-ok (masksOf y side) (lengthsOf y side) (emptyAt y side) t a h (λ e. d (e ∙ sym (same-empty x y side (f .same-start) (f .same-end)))) .0)
               (λ m i. f .among side a m h i)
               (λ m i. g .among side a m h i)
         ]
@@ -95,13 +96,13 @@ module _ (net whole : Net) (o : orderly net ≡ true) (q : orderly whole ≡ tru
   -- its side is not one that holds just the empty set
   plain : a ≡ emptyAt net side → ⊥
   plain e =
-      let z = side-just-empty (masksOf whole side) (lengthsOf whole side) (emptyAt whole side) (orderly-sides whole q side) a h (e ∙ same-empty net whole f side) in
+      let z = side-just-empty (masksOf whole side) (lengthsOf whole side) (emptyAt whole side) (orderly-sides whole q side) a h (e ∙ same-empty net whole side (f .same-start) (f .same-end)) in
       let n = listed-one m 0 (rw z at on) in omega arith
 
   not-full : listed m (setsOn net side a) ≡ false → getD (lengthsOf net side) a 0 ≡ sets → ⊥
   not-full new full =
       let s = plain-side-ok (masksOf net side) (lengthsOf net side) (emptyAt net side) (orderly-sides net o side) a h plain .0 in
-      let t = plain-side-ok (masksOf whole side) (lengthsOf whole side) (emptyAt whole side) (orderly-sides whole q side) a h (λ e. plain (e ∙ sym (same-empty net whole f side))) .0 in
+      let t = plain-side-ok (masksOf whole side) (lengthsOf whole side) (emptyAt whole side) (orderly-sides whole q side) a h (λ e. plain (e ∙ sym (same-empty net whole side (f .same-start) (f .same-end)))) .0 in
       let n = ascending-within 0 0 (insert m (setsOn net side a)) (setsOn whole side a) (ascends-insert 0 m (setsOn net side a) k s new) t among in
       omega (arith, length-insert m (setsOn net side a), sets-length net o side a h, sets-length whole q side a h, orderly-at-most whole q side a h)
     where

@@ -21,6 +21,7 @@ use Rattle.net.specs.declared.Side.{Side}
 use Rattle.net.proofs.OrderlyLaws.{facts-ends}
 use Rattle.net.proofs.FreshLaws.{fresh-start, fresh-end, fresh-on-side, fresh-orderly}
 use Rattle.net.proofs.PutLaws.{put-start, put-end, put-on-side}
+use Rattle.net.proofs.WithinLaws.{same-empty}
 use Rattle.netfile.specs.Limits.{netBytes}
 use Rattle.netfile.specs.NetFile.{netHeader, startWord, endWord, readEnd, readRow, rowSays, rowGives, Reading, refusedAt, readRows, afterEnd, fromEnd, afterStart, fromStart, fromHeader, readNet}
 use Rattle.netfile.specs.Refusals.{IsRow}
@@ -29,7 +30,7 @@ use Rattle.netfile.specs.declared.line.EndLine.{EndLine}
 use Rattle.netfile.specs.declared.line.EndLine.the-variants.{Activity, Refused}
 use Rattle.netfile.specs.declared.line.RowLine.{RowLine}
 use Rattle.netfile.specs.declared.line.RowLine.the-variants as row-line
-use Rattle.netfile.proofs.PutRowLaws.{row-orderly, same-empty}
+use Rattle.netfile.proofs.PutRowLaws.{row-orderly}
 use Rattle.netfile.proofs.LineReadLaws.{end-is, start-exactly, end-exactly, RowSaid, row-form, row-number, set-row, row-said, row-exactly}
 
 -- the net of a refused reading

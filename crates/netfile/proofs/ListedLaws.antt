@@ -10,58 +10,42 @@ use mathlib.Core.Path.{_≡_, refl, sym, ap, _∙_}
 use mathlib.Core.Bool.{Bool, true, false, cond, not, _||_}
 use mathlib.Core.List.{List, [], _∷_}
 use mathlib.Core.Logic.{_⊎_, inl, inr, ⊎-elim, _↔_}
-use lib.Dec.{leb, ltb, eqb}
+use lib.Dec.{leb, eqb}
 use lib.ListN.{length, getD, drop, length-drop, List·getD-eq-default}
 use lib.Seq.{drop-cons}
-use borrow.Author.Tests.{leb-true, leb-false, eqb-true, eqb-false}
+use borrow.Author.Tests.{leb-true, leb-false, eqb-true, eqb-false, lt-ltb}
 use Rattle.obligations.specs.Limits.{activities}
-use Rattle.obligations.specs.Tests.{indicator}
 use Rattle.obligations.proofs.BoolLaws.{false-not-true}
 use Rattle.text.specs.Bytes.{sameBytes}
 use Rattle.text.specs.Lines.{lines, HasLine, lineAt}
 use Rattle.text.proofs.ByteLaws.{same-exactly}
-use Rattle.net.specs.Refusals.{Says, accepted, refused, bad-ends, disorderly, outside-limits, no-activity, misplaced-set, full-side, line-form, number-form}
+use Rattle.net.specs.Refusals.{Says, accepted, refused, bad-ends, outside-limits, misplaced-set, full-side, line-form, number-form}
 use Rattle.net.specs.Limits.{sets}
-use Rattle.net.specs.Sentences.{Whole, Holds, NoneHolds, Listed, orderOnLine, AsListedByLine}
+use Rattle.net.specs.Sentences.{NoneHolds, orderOnLine, AsListedByLine}
 use Rattle.net.specs.Lists.{listed, AtMost}
 use Rattle.net.specs.Sides.{lengthsOf, emptyAt, setsOn, OnSide}
 use Rattle.net.specs.Orderly.{orderly}
 use Rattle.net.specs.Fresh.{freshNet}
-use Rattle.net.specs.Put.{Exceeds, putRefusals, misplaced, putSays, putGives, sideSays}
+use Rattle.net.specs.Put.{Exceeds, misplaced, putSays, putGives, sideSays}
 use Rattle.net.specs.declared.Net.{Net}
 use Rattle.net.specs.declared.Side.{Side}
 use Rattle.net.specs.declared.Side.the-variants.{Input, Output}
-use Rattle.net.proofs.SentenceLaws.{ascends, InOrder, ToldFrom, passed-all, line-passes, line-stops, told-by-line, refused-same, accepted-not-refused}
-use Rattle.net.proofs.OrderlyLaws.{orderly-facts, facts-ends}
+use Rattle.net.proofs.SentenceLaws.{ascends, InOrder, ToldFrom, passed-all, line-passes, line-stops, told-by-line, refused-same, accepted-not-refused, holds-whole, not-whole}
+use Rattle.net.proofs.OrderlyLaws.{facts-ends}
 use Rattle.net.proofs.FreshLaws.{fresh-start, fresh-end, fresh-orderly, fresh-on-side}
 use Rattle.net.proofs.PutLaws.{put-start, put-end, put-orderly, put-on-side}
-use Rattle.net.proofs.RefusalLaws.{put-listed}
+use Rattle.net.proofs.WithinLaws.{same-empty}
+use Rattle.net.proofs.RefusalLaws.{misplaced-exactly, room-exactly}
+use Rattle.net.proofs.DistinctLaws.{fewer}
 use Rattle.netfile.specs.Limits.{netBytes}
 use Rattle.netfile.specs.NetFile.{netHeader, startWord, endWord, readEnd, readRow, rowSays, rowGives, refusedAt, readRows, afterEnd, fromEnd, afterStart, fromStart, fromHeader, readNet}
 use Rattle.netfile.specs.Refusals.{IsEnd, IsRow, HoldsEmpty, MisplacedRow, RowUpTo, FullSide, netRefusals}
 use Rattle.netfile.specs.declared.line.EndLine.{EndLine}
 use Rattle.netfile.specs.declared.line.RowLine.{RowLine}
 use Rattle.netfile.proofs.RowLaws.{row-commas as row-commas-said}
-use Rattle.netfile.proofs.PutRowLaws.{same-empty}
 use Rattle.netfile.proofs.LineReadLaws.{EndSaid, end-form, end-number, end-row, end-said, start-same, end-same, RowSaid, row-form, row-number, set-row, row-said, row-exactly, row-same}
 
 -- ---- what put says of a set that isn't empty
-
--- a put is accepted or refused
-put-ok-or-refused : (net : Net) (side : Side) (a m : ℕ) → (putSays net side a m .ok ≡ true) ⊎ ((n : ℕ) × (p : ℕ) × (putSays net side a m ≡ refused n p))
-unfolding putSays sideSays
-put-ok-or-refused net side a m =
-    let there = listed m (setsOn net side a) in
-    go (orderly net) (ltb a activities) (not (misplaced (emptyAt net side) a m)) (there || not (eqb (getD (lengthsOf net side) a 0) sets)) (indicator (not there))
-  where
-    go : (p q r t : Bool) (v : ℕ)
-        → (cond p (cond q (cond r (cond t (accepted v) (refused full-side 0)) (refused misplaced-set 0)) (refused no-activity 0)) (refused disorderly 0) .ok ≡ true)
-        ⊎ ((n : ℕ) × (k : ℕ) × (cond p (cond q (cond r (cond t (accepted v) (refused full-side 0)) (refused misplaced-set 0)) (refused no-activity 0)) (refused disorderly 0) ≡ refused n k))
-    go true true true true v = inl refl
-    go true true true false v = inr (full-side, 0, refl)
-    go true true false t v = inr (misplaced-set, 0, refl)
-    go true false r t v = inr (no-activity, 0, refl)
-    go false q r t v = inr (disorderly, 0, refl)
 
 data PutSaid (net : Net) (side : Side) (a m : ℕ) : Type 0 where
   said-misplaced : putSays net side a m ≡ refused misplaced-set 0 → a ≡ emptyAt net side → PutSaid net side a m
@@ -69,36 +53,19 @@ data PutSaid (net : Net) (side : Side) (a m : ℕ) : Type 0 where
   said-put : putSays net side a m .ok ≡ true → (a ≡ emptyAt net side → ⊥) → (Exceeds net side a m → ⊥) → PutSaid net side a m
 
 put-said : (net : Net) (side : Side) (a m : ℕ) → orderly net ≡ true → a < activities → 0 < m → PutSaid net side a m
-put-said net side a m o h k = ⊎-elim none (λ g. given (g .0) (g .1) (g .2) (g .2 .holds)) (put-listed net side a m .given-or-none)
+unfolding putSays sideSays
+put-said net side a m o h k = go (misplaced (emptyAt net side) a m) refl (listed m (setsOn net side a) || not (eqb (getD (lengthsOf net side) a 0) sets)) refl
   where
-    none : NoneHolds (putRefusals net side a m) → PutSaid net side a m
-    none f =
-        said-put (⊎-elim (λ e. e) (λ r. absurd (put-listed net side a m .accepted-exactly .1 f (r .0) (r .1) (r .2))) (put-ok-or-refused net side a m))
-        (λ e. f misplaced-set 0 (inr (inr (inl (refl, record { bad = inr ((λ z. omega arith), e); at-none = refl })))))
-        (λ e. f full-side 0 (inr (inr (inr (inl (refl, record { bad = e; at-none = refl }))))))
+    there : misplaced (emptyAt net side) a m ≡ true → a ≡ emptyAt net side
+    there p = ⊎-elim (λ v. absurd (omega (arith, v .0))) (λ v. v .1) (misplaced-exactly net side a m .0 p)
 
-    given : (n p : ℕ) → Listed (putRefusals net side a m) n p → Holds (putRefusals net side a m) n p → PutSaid net side a m
-    given n p l (inl w) = absurd (w .1 .bad (orderly-facts net o))
-    given n p l (inr (inl w)) = absurd (omega (arith, w .1 .bad))
-    given n p l (inr (inr (inl w))) =
-        said-misplaced (put-listed net side a m .refused-exactly n p .1 l ∙ rw (← w .0, w .1 .at-none)) (⊎-elim (λ v. absurd (omega (arith, v .0))) (λ v. v .1) (w .1 .bad))
-    given n p l (inr (inr (inr (inl w)))) =
-        said-full (put-listed net side a m .refused-exactly n p .1 l ∙ rw (← w .0, w .1 .at-none))
-        (λ e. l .none-lower misplaced-set 0 (omega (arith, w .0)) (inr (inr (inl (refl, record { bad = inr ((λ z. omega arith), e); at-none = refl })))))
-        (w .1 .bad)
-    given n p l (inr (inr (inr (inr w)))) = absurd w
+    elsewhere : misplaced (emptyAt net side) a m ≡ false → a ≡ emptyAt net side → ⊥
+    elsewhere p e = false-not-true p (misplaced-exactly net side a m .1 (inr ((λ z. omega arith), e)))
 
--- ---- sentences of a whole line
-
-holds-whole : {Bad : Type 0} → Bad → Whole Bad 0
-holds-whole b = record { bad = b; at-none = refl }
-
-not-whole : {Bad : Type 0} → (Bad → ⊥) → (q : ℕ) → Whole Bad q → ⊥
-not-whole f q w = f (w .bad)
-
--- fewer have a property that says more
-pub fewer : (n : ℕ) (P Q : ℕ → Type 0) → ((m : ℕ) → P m → Q m) → AtMost n Q → AtMost n P
-fewer n P Q f h ms d g = h ms d (λ m i. f m (g m i))
+    go : (p : Bool) → misplaced (emptyAt net side) a m ≡ p → (t : Bool) → listed m (setsOn net side a) || not (eqb (getD (lengthsOf net side) a 0) sets) ≡ t → PutSaid net side a m
+    go true p t q = said-misplaced (rw (o, lt-ltb a activities h, p)) (there p)
+    go false p true q = said-put (rw (o, lt-ltb a activities h, p, q)) (elsewhere p) (λ f. f (room-exactly net o side a h m .0 q))
+    go false p false q = said-full (rw (o, lt-ltb a activities h, p, q)) (elsewhere p) (λ f. false-not-true q (room-exactly net o side a h m .1 f))
 
 -- ---- lines by their numbers
 

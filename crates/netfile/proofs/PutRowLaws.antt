@@ -13,7 +13,6 @@ use Rattle.net.specs.Put.{putMeans, withSides}
 use Rattle.net.specs.Inner.{SideDone}
 use Rattle.net.specs.declared.Net.{Net}
 use Rattle.net.specs.declared.Side.{Side}
-use Rattle.net.specs.declared.Side.the-variants.{Input, Output}
 use Rattle.net.specs.declared.PutAnswer.{PutAnswer}
 use Rattle.net.proofs.PutLaws.{put-done, put-orderly}
 use Rattle.netfile.specs.NetFile.{rowGives}
@@ -48,8 +47,3 @@ row-put-refused s n e = go (s .ok) e
 pub row-orderly : (net : Net) (row : RowLine) → orderly net ≡ true → orderly (rowGives net row) ≡ true
 row-orderly net (row-line.Set side a m) o = put-orderly net side a m o
 row-orderly net (row-line.Refused n) o = o
-
--- nets with the same start and end have the empty set on the same sides
-pub same-empty : (x y : Net) (side : Side) → x .start ≡ y .start → x .end ≡ y .end → emptyAt x side ≡ emptyAt y side
-same-empty x y Input s e = s
-same-empty x y Output s e = e

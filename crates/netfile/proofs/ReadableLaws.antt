@@ -5,12 +5,13 @@ use Prim.Native.Nat.{ℕ, zero, suc, _-_, _≤_, _<_}
 use native.Mathlib.Omega.{arith}
 use mathlib.Core.Path.{_≡_, refl, sym, ap, _∙_}
 use mathlib.Core.Bool.{true, false}
-use mathlib.Core.List.{List, [], _∷_, List·Memᴰ, List·Memᴰ·head, List·Memᴰ·tail}
+use mathlib.Core.List.{List, [], _∷_, List·Memᴰ}
 use mathlib.Core.Logic.{_⊎_, inl, inr, ⊎-elim, _↔_}
 use lib.ListN.{length, getD, drop}
 use Rattle.obligations.specs.Limits.{activities}
 use Rattle.obligations.proofs.BoolLaws.{true-or-false, false-not-true}
 use Rattle.obligations.proofs.SetLaws.{lt-or-le}
+use Rattle.obligations.proofs.ListLaws.{member-at}
 use Rattle.text.specs.Lines.{lines, HasLine, lineAt}
 use Rattle.net.specs.Refusals.{Says, accepted, refused, outside-limits}
 use Rattle.net.specs.Limits.{sets}
@@ -23,20 +24,19 @@ use Rattle.net.specs.declared.Net.{Net}
 use Rattle.net.specs.declared.Side.{Side}
 use Rattle.net.specs.declared.Side.the-variants.{Input, Output}
 use Rattle.net.proofs.ListLaws.{listed-first, listed-one}
-use Rattle.net.proofs.DistinctLaws.{distinct-within}
+use Rattle.net.proofs.DistinctLaws.{distinct-within, fewer}
 use Rattle.net.proofs.SideLaws.{side-just-empty}
 use Rattle.net.proofs.OrderlyLaws.{orderly-facts, orderly-sides, orderly-at-most, sets-length}
-use Rattle.net.proofs.WithinLaws.{contained-same}
+use Rattle.net.proofs.WithinLaws.{contained-same, same-empty}
 use Rattle.net.proofs.SentenceLaws.{ToldFrom, passed-all, stopped-on, accepted-not-refused}
 use Rattle.netfile.specs.Limits.{netBytes}
 use Rattle.netfile.specs.NetFile.{startWord, endWord, Reading, readNet}
 use Rattle.netfile.specs.Refusals.{IsEnd, IsRow, ActivityWrong, RowFormWrong, MembersWrong, HoldsEmpty, netRefusals}
 use Rattle.netfile.specs.Statements.{HasRow, Readable, SameRows}
 use Rattle.netfile.proofs.FileLaws.{read-long}
-use Rattle.netfile.proofs.PutRowLaws.{same-empty}
 use Rattle.netfile.proofs.LineReadLaws.{start-exactly, end-exactly, start-same, end-same, end-fine, row-fine}
 use Rattle.netfile.proofs.AcceptedLaws.{accepted-parts, rows-are-rows, read-refused, net-orderly, ok-accepted, accepted-said}
-use Rattle.netfile.proofs.ListedLaws.{fewer, no-row-missing, net-told, net-listed}
+use Rattle.netfile.proofs.ListedLaws.{no-row-missing, net-told, net-listed}
 
 -- ---- what is accepted is readable
 
@@ -82,12 +82,6 @@ accepted-readable text q =
 
 -- ---- of a readable text no sentence holds
 
--- an element of a list by its place
-listed-at : (ls : List (List ℕ)) (i : ℕ) → i < length ls → List·Memᴰ (getD ls i []) ls
-listed-at [] i h = absurd (omega arith)
-listed-at (l ∷ ls) zero h = List·Memᴰ·head refl
-listed-at (l ∷ ls) (suc i) h = List·Memᴰ·tail (listed-at ls i (omega arith))
-
 module _ (text : List ℕ) (r : Readable text) where
   long : length (lines text) ≡ suc (suc (suc (length (r .rows))))
   long = ap length (r .are-lines)
@@ -102,7 +96,7 @@ module _ (text : List ℕ) (r : Readable text) where
   line-there : (n : ℕ) → 4 ≤ n → HasLine text n → List·Memᴰ (lineAt text n) (r .rows)
   line-there n h k =
       let e : n - 1 ≡ suc (suc (suc (n - 4))) = omega arith in
-      rw (e, r .are-lines) (listed-at (r .rows) (n - 4) (omega (arith, long)))
+      rw (e, r .are-lines) (member-at (r .rows) (n - 4) [] (omega (arith, long)))
 
   row-there : (n : ℕ) (side : Side) (a m : ℕ) → 4 ≤ n → IsRow side a m (lineAt text n) → HasRow (r .rows) side a m
   row-there n side a m h i =

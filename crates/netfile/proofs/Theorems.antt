@@ -27,12 +27,12 @@ use Rattle.net.proofs.SideLaws.{side-just-empty, set-is-mask}
 use Rattle.net.proofs.OrderlyLaws.{ends-facts, orderly-ends, orderly-sides, orderly-side, orderly-facts, facts-orderly}
 use Rattle.net.proofs.FreshLaws.{fresh-start, fresh-end, fresh-on-side, fresh-orderly}
 use Rattle.net.proofs.PutLaws.{put-says-side}
-use Rattle.net.proofs.WithinLaws.{contained-same, put-accepts-within, put-keeps-within}
+use Rattle.net.proofs.WithinLaws.{contained-same, put-accepts-within, put-keeps-within, same-empty}
 use Rattle.net.proofs.SentenceLaws.{ascends, told-end, whole-link, chain-listed, accepted-not-refused}
 use Rattle.net.proofs.CommonLaws.{orderly-link}
 use Rattle.netfile.specs.NetFile.{readRow, rowSays, rowGives, Reading, readAs, readRows, fromEnd, fromStart, fromHeader, readNet, activityLines, headLines, netLines, netText, writeRefusals, writeSays, writeGives}
 use Rattle.netfile.specs.Statements.{NetListed, WriteListed, RefusedFresh, LinesRead, HasRow, NetAccepted, ReadSaid, SameRowsSameNet, ReadOrderly, RowSaysSide, RoundTrip, WrittenRead, ReadAgain}
-use Rattle.netfile.proofs.PutRowLaws.{row-orderly, same-empty}
+use Rattle.netfile.proofs.PutRowLaws.{row-orderly}
 use Rattle.netfile.proofs.FileLaws.{read-short}
 use Rattle.netfile.proofs.TextLaws.{net-short}
 use Rattle.netfile.proofs.RowTextLaws.{start-back, end-back, row-back, RowOf, net-row-of, net-row, text-lines}

@@ -1,5 +1,6 @@
 -- The laws of the definitions in specs/, by concept.
 pub mod BoolLaws
+pub mod ListLaws
 pub mod TestLaws
 pub mod BitLaws
 pub mod SetLaws

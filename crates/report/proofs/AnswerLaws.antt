@@ -1,15 +1,16 @@
 -- Laws of what is read of a log: an answer is a row exactly if a row was to be read, and the trace of a row at a buffer's
 -- front is one that a replay takes. Assumes nothing.
-use Prim.Native.Nat.{ℕ, zero, suc, _≤_, _<_}
+use Prim.Native.Nat.{ℕ, _≤_}
 use mathlib.Core.Path.{_≡_, refl, sym, ap, _∙_}
-use mathlib.Core.List.{List, [], _∷_, _++_, List·Memᴰ, List·Memᴰ·head, List·Memᴰ·tail}
+use mathlib.Core.List.{List, [], _∷_, _++_}
 use mathlib.Core.Logic.{⊎-elim}
 use native.Mathlib.Omega.{arith}
 use denote.Enum.Declared.{tagOf}
 use types.Run.{OneOf}
-use lib.ListN.{length, getD, take, drop}
+use lib.ListN.{length, take, drop}
 use lib.Seq.{take-append-seam}
 use Rattle.obligations.specs.Limits.{positions}
+use Rattle.obligations.proofs.ListLaws.{member-at}
 use Rattle.logfile.specs.LogFile.{Reading, row, end, fault, RowSays, rowMeans, readingSays, readRow}
 use Rattle.logfile.specs.declared.RowAnswer.{RowAnswer}
 use Rattle.logfile.specs.declared.RowAnswer.the-variants.{Row, End, Refused}
@@ -37,13 +38,7 @@ not-row (Refused n p) h a b q = let z : _≡_ {A = ℕ} 0 1 = ap (λ (r : RowSay
 pub front-is : (t buf out : List ℕ) (n : ℕ) → out ≡ t ++ drop (length t) buf → length t ≡ n → take n out ≡ t
 front-is t buf out n e q = rw (e, sym q) (take-append-seam t (drop (length t) buf))
 
--- an entry of a list is one of its elements
-getD-member : (l : List ℕ) (i : ℕ) → i < length l → List·Memᴰ (getD l i 0) l
-getD-member [] i h = absurd (omega arith)
-getD-member (x ∷ xs) zero h = List·Memᴰ·head refl
-getD-member (x ∷ xs) (suc i) h = List·Memᴰ·tail (getD-member xs i (omega arith))
-
 pub row-with-room : (log : List ℕ) (r s : ℕ) (t : List ℕ) (room : ℕ) → readRow log r positions ≡ row s t → 192 ≤ room → TraceWithRoom t room
 row-with-room log r s t room e h =
     let g = row-is-trace log r positions s t e in
-    record { few-positions = g .few-entries; activities-only = λ i l. g .activities-only _ (getD-member t i l); three-words-each = omega (arith, g .few-entries) }
+    record { few-positions = g .few-entries; activities-only = λ i l. g .activities-only _ (member-at t i 0 l); three-words-each = omega (arith, g .few-entries) }

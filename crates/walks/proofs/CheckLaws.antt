@@ -2,7 +2,7 @@
 -- member is the lowest of them. Assumes nothing.
 use Prim.Native.Nat.{ℕ, _^_, _<_}
 use mathlib.Core.Path.{_≡_, refl, sym, ap, _∙_}
-use mathlib.Core.Logic.{⊎-elim}
+use mathlib.Core.Logic.{⊎-elim, _↔_}
 use mathlib.Core.Bool.{Bool, true, false, not, cond, _&&_}
 use mathlib.Core.List.{List, [], _∷_}
 use native.Mathlib.Omega.{arith}
@@ -15,13 +15,14 @@ use Rattle.obligations.proofs.BoolLaws.{true-or-false, false-not-true, and-left
 use Rattle.obligations.proofs.SetLaws.{member-none, no-members}
 use Rattle.obligations.proofs.MemberLaws.{members-walk}
 use Rattle.obligations.proofs.LowestLaws.{lowest-activity, lowest-member, none-below}
-use Rattle.net.specs.Refusals.{accepted, refused, on-no-walk}
+use Rattle.net.specs.Refusals.{accepted, refused, on-no-walk, Says}
 use Rattle.net.specs.Sentences.{Sentence, Lowest, AsListed}
 use Rattle.net.specs.Orderly.{orderly}
 use Rattle.net.specs.declared.Net.{Net}
 use Rattle.net.proofs.OrderlyLaws.{orderly-facts, on-side-activity}
 use Rattle.net.proofs.SentenceLaws.{ascends, Told, told-end, told-link, chain-listed}
 use Rattle.net.proofs.CommonLaws.{orderly-link}
+use Rattle.net.proofs.ChainLaws.{unless-at-passes}
 use Rattle.walks.specs.Arcs.{arcs}
 use Rattle.walks.specs.Walk.{InNet, the-start, the-end, with-a-set, in-a-set, OnWalk, Passes}
 use Rattle.walks.specs.Rows.{reach}
@@ -97,6 +98,13 @@ module _ (net : Net) (o : orderly net ≡ true) where
     walks-link next =
         told-link refusal value (onNoWalk net) ss (eqb (lost net) 0) (lowestMember (lost net)) rest
         (λ e q l. l .bad .1 (none-lost-passes (eqb-true (lost net) 0 e) .on-walks q (l .bad .0))) (λ e. lost-lowest (eqb-false (lost net) 0 e)) (λ e. next (eqb-true (lost net) 0 e))
+
+-- a link of which the test is refusal 6 passes exactly if no activity is lost
+pub walks-pass : (net : Net) (rest : Says) → (onWalks net rest .ok ≡ true) ↔ ((lost net ≡ 0) × (rest .ok ≡ true))
+unfolding onWalks
+walks-pass net rest =
+    let u = unless-at-passes (eqb (lost net) 0) on-no-walk (lowestMember (lost net)) rest in
+    ((λ e. (eqb-true (lost net) 0 (u .0 e .0), u .0 e .1)), (λ w. u .1 (eq-eqb (lost net) 0 (w .0), w .1)))
 
 -- ---- the call
 

@@ -1,8 +1,7 @@
 -- The statements of specs/Statements.antt. That no refusal holds is that nothing is lost, which is that the net passes; the rest is
 -- read off the check's chain. Assumes nothing.
-use Prim.Native.Nat.{ℕ}
 use mathlib.Core.Path.{_≡_, refl, sym, ap, _∙_}
-use mathlib.Core.Logic.{_↔_, _⊎_, inl, inr}
+use mathlib.Core.Logic.{_⊎_, inl, inr}
 use mathlib.Core.Bool.{true, false}
 use native.Mathlib.Decide.{ℕ-discrete as decEq}
 use Rattle.obligations.proofs.BoolLaws.{true-or-false, false-not-true}
