@@ -17,6 +17,7 @@ use Rattle.net.specs.declared.Net.{Net}
 use Rattle.net.specs.declared.Side.{Side}
 use Rattle.net.specs.declared.Side.the-variants.{Input, Output}
 use Rattle.net.proofs.FreshLaws.{fresh-on-side}
+use Rattle.net.proofs.WithinLaws.{same-empty}
 use Rattle.walks.specs.Walk.{InNet, the-start, the-end, with-a-set, in-a-set, OnWalk, Passes}
 use Rattle.promises.proofs.ValidWalkLaws.{SetsAreMasks, Occurs, occurring-on-walk, named-occurs, start-occurs, end-occurs}
 use Rattle.promises.proofs.GrownLaws.{SetOfSome, Grown, grown-valid}
@@ -33,12 +34,8 @@ module _ (start end : ℕ) (h : endsOk start end ≡ true) (after : Net) (ss : L
   at-an-end Input a e s m = of-sequence a s m (rw e (start-occurs after s (small s m) (valid s m)))
   at-an-end Output a e s m = of-sequence a s m (rw e (end-occurs after s (small s m) (valid s m)))
 
-  empty-as-fresh : (side : Side) → emptyAt (freshNet start end) side ≡ emptyAt after side
-  empty-as-fresh Input = sym (g .same-start)
-  empty-as-fresh Output = sym (g .same-end)
-
   with-set : (side : Side) (a m : ℕ) (s : List Binding) → List·Memᴰ s ss → OnSide (freshNet start end) side a m ⊎ SetOfSome side ss a m → OnWalk after a
-  with-set side a m s k (inl i) = at-an-end side a (fresh-on-side start end h side a m .0 i .0 ∙ empty-as-fresh side) s k
+  with-set side a m s k (inl i) = at-an-end side a (fresh-on-side start end h side a m .0 i .0 ∙ same-empty (freshNet start end) after side (sym (g .same-start)) (sym (g .same-end))) s k
   with-set side a m s k (inr f) = of-sequence a (f .sequence) (f .among) (record { position = f .set-of .position; inside = f .set-of .inside; activity-is = f .set-of .activity-is })
 
   in-set : (side : Side) (b a m : ℕ) → member m a ≡ true → OnSide (freshNet start end) side b m ⊎ SetOfSome side ss b m → OnWalk after a

@@ -1,7 +1,7 @@
 -- Replays in a net and in one that contains it: a choice in the first is one in the second, so what is found in the first is not
 -- none in the second. And "none" said of a call, from what the search says of it. Assumes nothing.
 use Prim.Native.Nat.{ℕ}
-use mathlib.Core.Path.{_≡_, refl}
+use mathlib.Core.Path.{refl}
 use mathlib.Core.List.{List}
 use mathlib.Core.Logic.{_↔_}
 use native.Mathlib.Omega.{arith}

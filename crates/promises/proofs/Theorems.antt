@@ -11,7 +11,7 @@ use Rattle.net.specs.Sentences.{NoneHolds, Listed}
 use Rattle.net.specs.Sides.{netSize}
 use Rattle.net.specs.Orderly.{endsOk}
 use Rattle.net.specs.Fresh.{freshNet}
-use Rattle.net.specs.Contained.{containedSays, Contained}
+use Rattle.net.specs.Contained.{containedSays}
 use Rattle.net.specs.Valid.{Valid}
 use Rattle.net.specs.declared.Net.{Net}
 use Rattle.net.proofs.OrderlyLaws.{orderly-facts}
@@ -24,7 +24,7 @@ use Rattle.sequences.specs.Learn.{newSets}
 use Rattle.promises.specs.Calls.{Call, sequenceOf, refusals, says, gives, grown, answers}
 use Rattle.promises.specs.Promise.{Called, Runs, none-left, accepts, refuses, Promise, Promised}
 use Rattle.promises.proofs.CallLaws.{call-listed, call-accepted, call-gains, call-gained, call-stays}
-use Rattle.promises.proofs.GrownLaws.{learned, learned-nothing, learned-more, learned-same, accepted-or-refused, Grown, grown-list, learned-masks, grown-valid}
+use Rattle.promises.proofs.GrownLaws.{learned, learned-nothing, learned-more, learned-same, Grown, grown-list, learned-masks, grown-valid}
 use Rattle.promises.proofs.PassLaws.{grown-net-passes}
 use Rattle.promises.proofs.WithinLaws.{valid-grows, all-valid-contained}
 use Rattle.promises.proofs.ReplayLaws.{found-not-none, none-exactly}

@@ -1,25 +1,23 @@
 -- A net grown from a fresh one by sequences is contained in an orderly net of the same start and end exactly when each of them is
 -- valid there, since all else that it holds are the two empty sets, which every such net has. Assumes nothing.
 use Prim.Native.Nat.{ℕ, _<_}
-use mathlib.Core.Path.{_≡_, refl, sym, ap, subst, _∙_}
-use mathlib.Core.Bool.{Bool, true, false, cond}
+use mathlib.Core.Path.{_≡_, sym, subst, _∙_}
+use mathlib.Core.Bool.{true}
 use mathlib.Core.List.{List, List·Memᴰ}
 use mathlib.Core.Logic.{⊎-elim}
-use native.Mathlib.Omega.{arith}
 use Rattle.obligations.specs.Limits.{activities}
 use Rattle.obligations.specs.Sequence.{Binding, WellFormed, at}
-use Rattle.net.specs.Refusals.{Says, accepted, refused}
-use Rattle.net.specs.Sides.{emptyAt, OnSide}
-use Rattle.net.specs.Orderly.{endsOk, orderly, Orderly}
+use Rattle.net.specs.Sides.{OnSide}
+use Rattle.net.specs.Orderly.{endsOk, Orderly}
 use Rattle.net.specs.Fresh.{freshNet}
-use Rattle.net.specs.Contained.{contained, containedSays, Contained}
+use Rattle.net.specs.Contained.{Contained}
 use Rattle.net.specs.Valid.{Valid}
 use Rattle.net.specs.declared.Net.{Net}
 use Rattle.net.specs.declared.Side.{Side}
 use Rattle.net.specs.declared.Side.the-variants.{Input, Output}
 use Rattle.net.proofs.ListLaws.{one-listed}
 use Rattle.net.proofs.FreshLaws.{fresh-on-side}
-use Rattle.net.proofs.ContainedLaws.{contained-facts, facts-contained}
+use Rattle.net.proofs.WithinLaws.{same-empty}
 use Rattle.sequences.specs.Gain.{SetOf, setFor}
 use Rattle.promises.proofs.GrownLaws.{Grown}
 
@@ -42,15 +40,11 @@ valid-grows net other s c v = record {
 
 module _ (start end : ℕ) (h : endsOk start end ≡ true) (after : Net) (ss : List (List Binding)) (g : Grown (freshNet start end) after ss)
     (other : Net) (o : Orderly other) (es : other .start ≡ freshNet start end .start) (ee : other .end ≡ freshNet start end .end) where
-  empty-as-other : (side : Side) → emptyAt (freshNet start end) side ≡ emptyAt other side
-  empty-as-other Input = sym es
-  empty-as-other Output = sym ee
-
   -- the two empty sets are in every orderly net of the same start and end
   fresh-in : (side : Side) (a m : ℕ) → a < activities → OnSide (freshNet start end) side a m → OnSide other side a m
   fresh-in side a m l i =
       let f = fresh-on-side start end h side a m .0 i in
-      rw (o .sides side a l .just-empty (f .0 ∙ empty-as-other side), f .1) (one-listed 0)
+      rw (o .sides side a l .just-empty (f .0 ∙ same-empty (freshNet start end) other side (sym es) (sym ee)), f .1) (one-listed 0)
 
   pub all-valid-contained : ((s : List Binding) → List·Memᴰ s ss → Valid other s) → Contained after other
   all-valid-contained v = record {

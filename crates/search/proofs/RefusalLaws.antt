@@ -2,39 +2,30 @@
 -- the answer of the search is no refusal. So no refusal holds exactly if every test passes, which is that the net passes, the
 -- trace has at most 64 positions, all of activities, and the buffer has three words for each. Assumes nothing.
 use Prim.Native.Nat.{ℕ}
-use mathlib.Core.Path.{_≡_, refl, sym, _∙_}
+use mathlib.Core.Path.{_≡_, refl, ap}
 use mathlib.Core.Bool.{Bool, true, false, cond}
 use mathlib.Core.List.{List, []}
-use mathlib.Core.Logic.{_⊎_, inl, inr}
-use native.Mathlib.Decide.{ℕ-discrete}
 use native.Mathlib.Omega.{arith}
 use lib.Dec.{leb}
 use lib.ListN.{length}
-use Rattle.obligations.proofs.BoolLaws.{true-or-false}
 use Rattle.obligations.proofs.TraceLaws.{activities-below, below-activities}
-use Rattle.net.specs.Refusals.{Says, accepted, refused, disorderly, outside-limits, no-activity, on-no-walk}
-use Rattle.net.specs.Sentences.{Sentence, NoneHolds, AsListed}
+use Rattle.net.specs.Refusals.{Says, accepted, refused, disorderly, outside-limits, no-activity}
+use Rattle.net.specs.Sentences.{NoneHolds, AsListed}
 use Rattle.net.specs.Orderly.{orderly}
 use Rattle.net.specs.Traces.{activityIn, noActivityIn}
 use Rattle.net.specs.declared.Net.{Net}
 use Rattle.net.proofs.OrderlyLaws.{facts-orderly}
-use Rattle.net.proofs.SentenceLaws.{ascends, Told, passed, stopped, told-end, whole-link, told-listed, accepted-not-refused, chain-listed}
+use Rattle.net.proofs.SentenceLaws.{ascends, Told, told-end, whole-link, told-listed, chain-listed, told-map, told-accepted}
 use Rattle.net.proofs.CommonLaws.{orderly-link, activities-link}
-use Rattle.walks.specs.Check.{lost, lowestMember, onWalks}
-use Rattle.walks.proofs.CheckLaws.{none-lost-passes, passes-none-lost, walks-link}
+use Rattle.net.proofs.ChainLaws.{unless-passes, none-passes}
+use Rattle.walks.specs.Check.{onWalks}
+use Rattle.walks.proofs.CheckLaws.{none-lost-passes, passes-none-lost, walks-link, walks-pass}
 use Rattle.search.specs.Search.{Result, found, failed, trialsOf}
 use Rattle.search.specs.Trace.{hasRoom}
 use Rattle.search.specs.Replay.{says-refused, says-spent, endSays, within, replayed, checkedSays, OutsideLimits, replayRefusals, replayTests, replaySays}
 use Rattle.search.specs.Statements.{Replayable}
 use Rattle.search.proofs.TraceLaws.{room-facts, facts-room, room-none, room-some}
-use Rattle.search.proofs.ReplayLaws.{refuses-disorderly, refuses-room, refuses-activity, refuses-lost, tests-pass}
-
--- ---- an answer that is given by what a chain says
-
-pub told-map : {A B : Type 0} (refusal : ℕ → ℕ → A) (refusal′ : ℕ → ℕ → B) (f : A → B) → ((n p : ℕ) → f (refusal n p) ≡ refusal′ n p)
-    → (ss : List Sentence) (value answer : A) → Told refusal ss value answer → Told refusal′ ss (f value) (f answer)
-told-map refusal refusal′ f same ss value answer (passed none) = passed none
-told-map refusal refusal′ f same ss value answer (stopped n p o) = rw (same n p) (stopped n p o)
+use Rattle.search.proofs.ReplayLaws.{tests-pass}
 
 -- ---- what a search says is no refusal
 
@@ -73,33 +64,25 @@ module _ (net : Net) (trace : List ℕ) (room : ℕ) where
 
   -- ---- that no refusal holds
 
-  tests-passed : ((n p : ℕ) → replayTests net trace room ≡ refused n p → ⊥)
-      → (orderly net ≡ true) × (hasRoom (length trace) room ≡ true) × (noActivityIn trace ≡ 0) × (lost net ≡ 0)
-  tests-passed h = go (true-or-false (orderly net)) (true-or-false (hasRoom (length trace) room)) (ℕ-discrete (noActivityIn trace) 0) (ℕ-discrete (lost net) 0)
-    where
-      go : (orderly net ≡ true) ⊎ (orderly net ≡ false) → (hasRoom (length trace) room ≡ true) ⊎ (hasRoom (length trace) room ≡ false) → Dec (noActivityIn trace ≡ 0) → Dec (lost net ≡ 0)
-          → (orderly net ≡ true) × (hasRoom (length trace) room ≡ true) × (noActivityIn trace ≡ 0) × (lost net ≡ 0)
-      go (inr o) f z l = absurd (h disorderly 0 (refuses-disorderly net trace room o))
-      go (inl o) (inr f) z l = absurd (h outside-limits 0 (refuses-room net trace room o f))
-      go (inl o) (inl f) (no z) l = absurd (h no-activity (noActivityIn trace) (refuses-activity net trace room o f z))
-      go (inl o) (inl f) (yes z) (no l) = absurd (h on-no-walk (lowestMember (lost net)) (refuses-lost net trace room o f z l))
-      go (inl o) (inl f) (yes z) (yes l) = (o, f, z, l)
-
   pub none-holds-pass : NoneHolds (replayRefusals net trace room) → replayTests net trace room ≡ accepted 0
-  none-holds-pass none = let t = tests-passed (tests-listed .accepted-exactly .1 none) in tests-pass net trace room (t .0) (t .1) (t .2) (t .3)
+  none-holds-pass = told-accepted (replayRefusals net trace room) 0 tests-told .1
 
   pub none-replayable : NoneHolds (replayRefusals net trace room) → Replayable net trace room
+  unfolding replayTests
   none-replayable none =
-      let t = tests-passed (tests-listed .accepted-exactly .1 none) in
-      let f = room-facts (length trace) room (t .1) in
+      let c₂ = unless-passes (orderly net) disorderly _ .0 (ap (λ (s : Says). s .ok) (none-holds-pass none)) in
+      let c₃ = unless-passes (hasRoom (length trace) room) outside-limits _ .0 (c₂ .1) in
+      let c₄ = none-passes (noActivityIn trace) no-activity _ .0 (c₃ .1) in
+      let c₆ = walks-pass net _ .0 (c₄ .1) in
+      let f = room-facts (length trace) room (c₃ .0) in
       record {
-        net-passes = none-lost-passes net (t .0) (t .3);
-        trace-with-room = record { few-positions = f .0; activities-only = activities-below (length trace) (activityIn trace) (t .2); three-words-each = f .1 };
+        net-passes = none-lost-passes net (c₂ .0) (c₆ .0);
+        trace-with-room = record { few-positions = f .0; activities-only = activities-below (length trace) (activityIn trace) (c₄ .0); three-words-each = f .1 };
       }
 
   pub replayable-none : Replayable net trace room → NoneHolds (replayRefusals net trace room)
   replayable-none r =
       let o = facts-orderly net (r .net-passes .is-orderly) in
       let w = r .trace-with-room in
-      let e = tests-pass net trace room o (facts-room (length trace) room (w .few-positions) (w .three-words-each)) (below-activities (length trace) (activityIn trace) (w .activities-only)) (passes-none-lost net o (r .net-passes)) in
-      tests-listed .accepted-exactly .0 (λ n p q. accepted-not-refused 0 n p (sym e ∙ q))
+      told-accepted (replayRefusals net trace room) 0 tests-told .0
+      (tests-pass net trace room o (facts-room (length trace) room (w .few-positions) (w .three-words-each)) (below-activities (length trace) (activityIn trace) (w .activities-only)) (passes-none-lost net o (r .net-passes)))

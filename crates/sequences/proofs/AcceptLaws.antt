@@ -1,8 +1,8 @@
 -- Which sequences are accepted: every link of the chain passes exactly if its sentence doesn't hold, and together they say
 -- well-formed and fitting. Assumes nothing.
 use Prim.Native.Nat.{ℕ, _+_, _*_, _/_, _%_, _≤_, _<_}
-use mathlib.Core.Path.{_≡_, refl}
-use mathlib.Core.Bool.{Bool, true, false, Bool·beq}
+use mathlib.Core.Path.{_≡_}
+use mathlib.Core.Bool.{true, false, Bool·beq}
 use mathlib.Core.List.{List}
 use mathlib.Core.Logic.{_↔_}
 use native.Mathlib.Decide.{ℕ-discrete as decEq}
@@ -13,35 +13,20 @@ use lib.ListN.{length}
 use Rattle.obligations.specs.State.{allZero}
 use Rattle.obligations.specs.Trace.{firstNoActivity, shaped, Shaped}
 use Rattle.obligations.specs.Sequence.{Binding, bindings, at, ψ, WellFormed, firstImpossible}
-use Rattle.obligations.proofs.BoolLaws.{and-left, and-right, and-both, false-not-true}
+use Rattle.obligations.proofs.BoolLaws.{and-left, and-right, and-both}
 use Rattle.obligations.proofs.PositionLaws.{pass-first, first-pass}
 use Rattle.obligations.proofs.TraceLaws.{agree-iff, shaped-facts, facts-shaped, activities-below, below-activities}
 use Rattle.obligations.proofs.SequenceLaws.{none-impossible, zero-left}
-use Rattle.net.specs.Refusals.{Says}
 use Rattle.net.specs.Orderly.{orderly}
 use Rattle.net.specs.Put.{misplaced}
 use Rattle.net.specs.declared.Net.{Net}
 use Rattle.net.proofs.OrderlyLaws.{orderly-facts, facts-orderly}
-use Rattle.net.specs.Chains.{unlessAt, unless, noneAt}
+use Rattle.net.proofs.ChainLaws.{unless-passes, none-passes}
 use Rattle.sequences.specs.Limits.{wordsWithin, withinLimits}
 use Rattle.sequences.specs.Gain.{fits}
 use Rattle.sequences.specs.Learn.{emptyAgree, firstWronglyEmpty, learnPositions, learnSays}
 use Rattle.sequences.specs.Statements.{Learnable}
 use Rattle.sequences.proofs.FitLaws.{Placed, fits-exactly}
-
--- ---- a link of a chain
-
-pub unless-at-passes : (t : Bool) (n p : ℕ) (rest : Says) → (unlessAt t n p rest .ok ≡ true) ↔ ((t ≡ true) × (rest .ok ≡ true))
-unless-at-passes true n p rest = ((λ e. (refl, e)), (λ w. w .1))
-unless-at-passes false n p rest = ((λ e. absurd (false-not-true refl e)), (λ w. absurd (false-not-true refl (w .0))))
-
-pub unless-passes : (t : Bool) (n : ℕ) (rest : Says) → (unless t n rest .ok ≡ true) ↔ ((t ≡ true) × (rest .ok ≡ true))
-unless-passes t n rest = unless-at-passes t n 0 rest
-
-pub none-passes : (p n : ℕ) (rest : Says) → (noneAt p n rest .ok ≡ true) ↔ ((p ≡ 0) × (rest .ok ≡ true))
-none-passes p n rest =
-    let u = unless-at-passes (eqb p 0) n p rest in
-    ((λ e. (eqb-true p 0 (u .0 e .0), u .0 e .1)), (λ w. u .1 (eq-eqb p 0 (w .0), w .1)))
 
 -- ---- refusal 9
 

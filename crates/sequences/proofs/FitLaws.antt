@@ -1,17 +1,16 @@
 -- No side would exceed 16 sets exactly if every put on the way is accepted. Where all are, the net's side afterwards lists the old
 -- sets and the sequence's, none twice and at most 16; and a put that is refused shows a side of 16 sets and one more.
 -- Assumes nothing.
-use Prim.Native.Nat.{ℕ, suc, _≤_, _<_}
-use mathlib.Core.Path.{_≡_, refl, sym, subst, _∙_}
+use Prim.Native.Nat.{ℕ, suc, _<_}
+use mathlib.Core.Path.{_≡_, refl, sym}
 use mathlib.Core.Bool.{true, false}
 use mathlib.Core.List.{List, [], _∷_}
 use mathlib.Core.Logic.{_↔_, _⊎_, inl, inr, ⊎-elim}
 use native.Mathlib.Omega.{arith}
 use lib.ListN.{length}
 use Rattle.obligations.specs.Sequence.{Binding, at}
-use Rattle.obligations.proofs.BoolLaws.{and-left, and-right, and-both, true-or-false, false-not-true}
+use Rattle.obligations.proofs.BoolLaws.{and-both, true-or-false}
 use Rattle.net.specs.Limits.{sets}
-use Rattle.net.specs.Lists.{listed, AtMost}
 use Rattle.net.specs.Sides.{masksOf, lengthsOf, emptyAt, setsOn, OnSide}
 use Rattle.net.specs.Orderly.{orderly}
 use Rattle.net.specs.Put.{misplaced, sideSays}
@@ -20,7 +19,7 @@ use Rattle.net.specs.declared.Side.{Side}
 use Rattle.net.specs.declared.Side.the-variants.{Input, Output}
 use Rattle.net.proofs.PutSideLaws.{refused-full}
 use Rattle.net.proofs.OrderlyLaws.{sets-length, orderly-at-most}
-use Rattle.net.proofs.DistinctLaws.{distinct-more, at-most-listed}
+use Rattle.net.proofs.DistinctLaws.{distinct-more, at-most-listed, fewer}
 use Rattle.net.proofs.RefusalLaws.{side-distinct, head-or-later}
 use Rattle.sequences.specs.Gain.{withPut, takesPut, withBinding, takesBinding, gained, fits, setFor, SetOf, Fits}
 use Rattle.sequences.proofs.GrowthLaws.{Activities, with-binding-orderly, with-binding-on-side, set-first, set-later, gained-orderly, gained-on-side}
@@ -60,7 +59,7 @@ module _ (net : Net) (b : Binding) (o : orderly net ≡ true) (h : b .activity <
   -- the other positions fit after the first
   fits-after : takesBinding net b ≡ true → (s : List Binding) → Fits net (b ∷ s) → Fits (withBinding net b) s
   fits-after k s w = record {
-    at-most = λ t a l ms d f. w .at-most t a l ms d (λ m i. ⊎-elim (λ n. ⊎-elim inl (λ e. inr (set-first t b s (e .0) (e .1))) (with-binding-on-side net b o h k t a m .0 n)) (λ n. inr (set-later t b s n)) (f m i));
+    at-most = λ t a l. fewer sets _ _ (λ m. ⊎-elim (λ n. ⊎-elim inl (λ e. inr (set-first t b s (e .0) (e .1))) (with-binding-on-side net b o h k t a m .0 n)) (λ n. inr (set-later t b s n))) (w .at-most t a l);
   }
 
 -- ---- a sequence

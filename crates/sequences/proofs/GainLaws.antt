@@ -6,15 +6,13 @@ use mathlib.Core.Bool.{Bool, true, false, cond}
 use mathlib.Core.List.{List, _∷_}
 use native.Mathlib.Numerals.{add-one}
 use native.Mathlib.Omega.{arith}
-use lib.Dec.{eqb}
-use lib.ListN.{length, getD, drop, drop-of-length-le}
+use lib.ListN.{length, drop, drop-of-length-le}
 use lib.Seq.{drop-cons}
 use Rattle.obligations.specs.Sequence.{Binding, at}
-use Rattle.net.specs.Refusals.{Says, accepted, refused}
-use Rattle.net.specs.Lists.{listed}
-use Rattle.net.specs.Sides.{sideIn, netSize}
+use Rattle.net.specs.Refusals.{Says}
+use Rattle.net.specs.Sides.{netSize}
 use Rattle.net.specs.Orderly.{orderly}
-use Rattle.net.specs.Put.{misplaced, sideSays, putMasks, putLengths}
+use Rattle.net.specs.Put.{sideSays, putMasks, putLengths}
 use Rattle.net.specs.declared.Net.{Net}
 use Rattle.net.specs.declared.Side.the-variants.{Input, Output}
 use Rattle.net.proofs.SideLaws.{OrderlySides}

@@ -1,16 +1,11 @@
 -- The search of one side's sets for refusal 8, the peak's bounds, and the chain of judge's refusals. Assumes nothing.
-use Prim.Native.Nat.{ℕ, suc, _+_, _-_, _*_, _≤_, _<_, min}
-use mathlib.Core.Path.{_≡_, refl, sym, ap, ap₂, _∙_}
-use mathlib.Core.Bool.{Bool, true, false, _&&_, and-false}
+use Prim.Native.Nat.{ℕ, suc, _+_, _-_, _*_, _≤_, _<_}
+use mathlib.Core.Path.{_≡_, sym, ap, _∙_}
+use mathlib.Core.Bool.{true, false}
 use mathlib.Core.List.{List, [], _∷_}
-use mathlib.Core.Logic.{_⊎_, inl, inr, ⊎-elim}
 use native.Mathlib.Omega.{arith}
 use borrow.Author.Tests.{ne-eqb, eqb-true}
 use lib.ListN.{length, getD, drop}
-use Rattle.obligations.specs.Tests.{firstFailing}
-use Rattle.obligations.proofs.BoolLaws.{and-both}
-use Rattle.obligations.proofs.SetLaws.{lt-or-le}
-use Rattle.obligations.proofs.PositionLaws.{AllPass, FailsFirst, pass-first, fails-first, pass-or-fails, first-ext}
 use Rattle.net.specs.Lists.{listed}
 use Rattle.net.specs.Sides.{Sides, sideIn}
 use Rattle.net.proofs.SideLaws.{length-side, side-at}
@@ -20,21 +15,19 @@ use Rattle.obligations.specs.Trace.{shaped}
 use Rattle.obligations.specs.Sequence.{Binding, bindings, at, run, firstImpossible}
 use Rattle.obligations.proofs.StateLaws.{after-state, nothing-state, nothing-zero}
 use Rattle.obligations.proofs.TotalLaws.{after-total, zero-total}
-use Rattle.obligations.proofs.SequenceLaws.{fired, EachFrom, held-at, each-possible-from}
+use Rattle.obligations.proofs.SequenceLaws.{fired, EachFrom, each-possible-from}
 use Rattle.net.specs.Refusals.{refused}
 use Rattle.net.specs.Orderly.{orderly}
 use Rattle.net.specs.declared.Net.{Net}
-use Rattle.net.specs.declared.Side.the-variants.{Input, Output}
 use Rattle.walks.specs.Check.{lost, lowestMember, onWalks}
 use Rattle.sequences.specs.Run.{largestTotal, outputSizes, ran}
-use Rattle.sequences.specs.Judge.{onSideAt, firstMissing, runSays, judgePositions, judgeSays, PeakOf, JudgeDone}
-use Rattle.sequences.specs.Inner.{limitsMeans, LimitsOf, Positions, RunJudged, PositionsJudged}
+use Rattle.sequences.specs.Judge.{firstMissing, runSays, judgePositions, judgeSays, PeakOf, JudgeDone}
+use Rattle.sequences.specs.Inner.{limitsMeans, LimitsOf, RunJudged, PositionsJudged}
 use Rattle.sequences.specs.declared.JudgeAnswer.{JudgeAnswer}
 use Rattle.sequences.specs.declared.JudgeAnswer.the-variants.{Judged, Refused}
 use Rattle.sequences.specs.declared.Limited.{Limited}
 use Rattle.sequences.specs.declared.Limited.the-variants.{Within, Beyond}
 use Rattle.sequences.specs.declared.Ran.the-variants.{Impossible, LeftOver, Settled}
-use Rattle.sequences.proofs.WordLaws.{positions-many}
 use Rattle.sequences.proofs.RunLaws.{impossible-shown, left-shown, settled-shown}
 use Rattle.sequences.proofs.GrowthLaws.{Activities}
 

@@ -1,8 +1,8 @@
 -- Learn, follow and judge answer as their refusals are listed: each test of a call's chain fails exactly where its sentence holds,
 -- given that the tests before it have passed. Assumes nothing.
-use Prim.Native.Nat.{ℕ, suc, _+_, _/_, _%_, _≤_, _<_}
+use Prim.Native.Nat.{ℕ, _+_, _/_, _%_, _<_}
 use mathlib.Core.Path.{_≡_, refl, ap, subst, _∙_}
-use mathlib.Core.Bool.{Bool, true, false, _&&_, Bool·beq}
+use mathlib.Core.Bool.{true, false, _&&_, Bool·beq}
 use mathlib.Core.List.{List, [], _∷_}
 use mathlib.Core.Logic.{_↔_, _⊎_, inl, inr, ⊎-elim}
 use native.Mathlib.Decide.{ℕ-discrete as decEq}
@@ -12,7 +12,7 @@ use lib.Dec.{eqb}
 use lib.ListN.{length}
 use Rattle.obligations.specs.Limits.{positions}
 use Rattle.obligations.specs.State.{allZero}
-use Rattle.obligations.specs.Trace.{firstNoActivity, shaped}
+use Rattle.obligations.specs.Trace.{shaped}
 use Rattle.obligations.specs.Sequence.{Binding, bindings, at, ψ, NothingLeft, possibleAt, firstImpossible}
 use Rattle.obligations.proofs.BoolLaws.{and-left, and-right, and-both, false-not-true}
 use Rattle.obligations.proofs.SetLaws.{lt-or-le}

@@ -15,13 +15,14 @@ use Rattle.net.specs.declared.Net.{Net}
 use Rattle.net.specs.declared.Side.the-variants.{Input, Output}
 use Rattle.net.proofs.OrderlyLaws.{orderly-facts}
 use Rattle.net.proofs.SentenceLaws.{told-accepted, told-ok}
+use Rattle.net.proofs.ChainLaws.{unless-passes, none-passes}
 use Rattle.sequences.specs.Limits.{wordsWithin, withinLimits}
 use Rattle.sequences.specs.Gain.{gained, fits}
 use Rattle.sequences.specs.Learn.{learnRefusals, firstWronglyEmpty, newSets, learnPositions, learnSays, learnGives}
 use Rattle.sequences.specs.Follow.{followGives}
-use Rattle.sequences.specs.Judge.{judgeRefusals, judgeSays}
+use Rattle.sequences.specs.Judge.{judgeRefusals}
 use Rattle.sequences.specs.Statements.{LearnListed, FollowListed, JudgeListed, NoneHoldsLearnable, LearnAccepts, LearnHolds, LearnValid, RefusedSame, FollowLearns, NoneHoldsJudgeable, JudgeAccepts}
-use Rattle.sequences.proofs.AcceptLaws.{unless-passes, none-passes, accepted-learnable, learnable-accepted}
+use Rattle.sequences.proofs.AcceptLaws.{accepted-learnable, learnable-accepted}
 use Rattle.sequences.proofs.ValidLaws.{accepted-judgeable, judgeable-accepted}
 use Rattle.sequences.proofs.RefusalLaws.{learn-told, learn-listed, follow-listed, judge-told, judge-listed}
 use Rattle.sequences.proofs.GrowthLaws.{Activities, gained-orderly, gained-contained, gained-on-side}

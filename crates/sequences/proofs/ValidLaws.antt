@@ -6,8 +6,6 @@ use mathlib.Core.Bool.{true, _&&_}
 use mathlib.Core.List.{List}
 use mathlib.Core.Logic.{_↔_}
 use native.Mathlib.Decide.{ℕ-discrete as decEq}
-use borrow.Author.Tests.{eq-eqb, eqb-true}
-use lib.Dec.{eqb}
 use lib.ListN.{length}
 use Rattle.obligations.specs.State.{allZero}
 use Rattle.obligations.specs.Trace.{firstNoActivity, shaped, Shaped}
@@ -16,7 +14,6 @@ use Rattle.obligations.proofs.BoolLaws.{and-left, and-right, and-both, false-no
 use Rattle.obligations.proofs.PositionLaws.{pass-first, first-pass}
 use Rattle.obligations.proofs.TraceLaws.{shaped-facts, activities-below}
 use Rattle.net.specs.Lists.{listed}
-use Rattle.net.specs.Refusals.{Says}
 use Rattle.net.specs.Sides.{OnSide, setsOn, emptyAt}
 use Rattle.net.specs.Orderly.{orderly, Orderly}
 use Rattle.net.specs.declared.Net.{Net}
@@ -24,20 +21,15 @@ use Rattle.net.specs.declared.Side.{Side}
 use Rattle.net.specs.declared.Side.the-variants.{Input, Output}
 use Rattle.net.proofs.ListLaws.{listed-one}
 use Rattle.net.proofs.OrderlyLaws.{orderly-facts, facts-orderly}
-use Rattle.walks.specs.Check.{lost, lowestMember, onWalks}
-use Rattle.walks.proofs.CheckLaws.{none-lost-passes, passes-none-lost}
+use Rattle.net.proofs.ChainLaws.{unless-passes, none-passes}
+use Rattle.walks.specs.Check.{onWalks}
+use Rattle.walks.proofs.CheckLaws.{none-lost-passes, passes-none-lost, walks-pass}
 use Rattle.sequences.specs.Limits.{wordsWithin, withinLimits}
 use Rattle.sequences.specs.Judge.{onSideAt, firstMissing, runSays, judgePositions, judgeSays}
 use Rattle.sequences.specs.Statements.{Judgeable}
-use Rattle.sequences.proofs.AcceptLaws.{unless-at-passes, unless-passes, none-passes, EmptyWhere, words-whole, whole-words, tests-well-formed, formed-activities, formed-shaped, formed-possible, formed-zero}
+use Rattle.sequences.proofs.AcceptLaws.{EmptyWhere, words-whole, whole-words, tests-well-formed, formed-activities, formed-shaped, formed-possible, formed-zero}
 
--- ---- refusals 6 and 8
-
-walks-pass : (net : Net) (rest : Says) → (onWalks net rest .ok ≡ true) ↔ ((lost net ≡ 0) × (rest .ok ≡ true))
-unfolding onWalks
-walks-pass net rest =
-    let u = unless-at-passes (eqb (lost net) 0) 6 (lowestMember (lost net)) rest in
-    ((λ e. (eqb-true (lost net) 0 (u .0 e .0), u .0 e .1)), (λ w. u .1 (eq-eqb (lost net) 0 (w .0), w .1)))
+-- ---- refusal 8
 
 -- each set is on its side
 pub record AllOnSides (net : Net) (s : List Binding) : Type 0 where
