@@ -12,11 +12,10 @@ use lib.ListN.{take, drop, getD, set, length-set, length-take}
 use lib.Seq.{getD-take, getD-drop, getD-set-same, getD-set-other}
 use borrow.Author.Tests.{eq-eqb, ne-eqb}
 use Rattle.obligations.specs.Limits.{activities}
-use Rattle.obligations.specs.State.{total}
 use Rattle.obligations.proofs.BoolLaws.{true-or-false, false-not-true}
 use Rattle.net.specs.Limits.{sets, places}
 use Rattle.net.specs.Lists.{blank, ascendsAbove, zeros}
-use Rattle.net.specs.Sides.{block, sideIn, emptyAt, setsOn, OnSide, netSize}
+use Rattle.net.specs.Sides.{block, sideIn, emptyAt, setsOn, OnSide}
 use Rattle.net.specs.Orderly.{blockOk, endsOk, sidesOk, orderly}
 use Rattle.net.specs.Fresh.{freshNet, freshGives}
 use Rattle.net.specs.declared.Side.{Side}
@@ -67,17 +66,6 @@ fresh-side empty a h = elim (decEq a empty) [
   | no d ↦ rw (ne-eqb a empty d, getD-set-other (blank activities) empty a 1 0 d, blank-at activities a)
 ]
 
-blank-total : (n : ℕ) → total (blank n) ≡ 0
-unfolding total
-blank-total zero = refl
-blank-total (suc n) = omega (arith, blank-total n)
-
-fresh-total : (n i : ℕ) → i < n → total (set (blank n) i 1) ≡ 1
-unfolding total
-fresh-total zero i h = absurd (omega arith)
-fresh-total (suc n) zero h = omega (arith, blank-total n)
-fresh-total (suc n) (suc i) h = omega (arith, fresh-total n i (omega arith))
-
 -- ---- the net
 
 module _ (start end : ℕ) (h : endsOk start end ≡ true) where
@@ -98,10 +86,6 @@ module _ (start end : ℕ) (h : endsOk start end ≡ true) where
   fresh-orderly =
       let f = ends-facts start end h in
       parts-orderly (freshNet start end) h (elim [ Input ↦ fresh-arrays start (f .0) | Output ↦ fresh-arrays end (f .1) ])
-
-  pub fresh-size : netSize (freshNet start end) ≡ 2
-  unfolding freshNet
-  fresh-size = let f = ends-facts start end h in omega (arith, fresh-total activities start (f .0), fresh-total activities end (f .1))
 
 zero-one : endsOk 0 1 ≡ true
 unfolding endsOk

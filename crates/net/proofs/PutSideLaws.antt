@@ -75,18 +75,6 @@ new-plain empty a m l p n j = elim (decEq m 0) [
 ]
 
 module _ (masks lengths : List ℕ) (empty a m : ℕ) where
-  pub put-side-grown : grows (sideSays masks lengths empty a m) ≡ true → (putMasks masks lengths empty a m ≡ grownMasks masks lengths a m) × (putLengths masks lengths empty a m ≡ grownLengths lengths a)
-  unfolding putMasks putLengths
-  put-side-grown g = (rw g, rw g)
-
-  pub put-side-kept : grows (sideSays masks lengths empty a m) ≡ false → (putMasks masks lengths empty a m ≡ masks) × (putLengths masks lengths empty a m ≡ lengths)
-  unfolding putMasks putLengths
-  put-side-kept g = (rw g, rw g)
-
-  pub refused-kept : sideSays masks lengths empty a m .ok ≡ false → grows (sideSays masks lengths empty a m) ≡ false
-  unfolding grows
-  refused-kept d = rw d
-
   -- a set that isn't misplaced and is refused finds the side full
   pub refused-full : misplaced empty a m ≡ false → sideSays masks lengths empty a m .ok ≡ false → (listed m (sideIn masks lengths a) ≡ false) × (getD lengths a 0 ≡ sets)
   unfolding sideSays

@@ -1,11 +1,11 @@
 -- Laws of `splice`, a list written over another from place i on: the part itself, what stands before it and after it,
 -- and the length. Each follows from where the three pieces meet. Assumes nothing.
-use Prim.Native.Nat.{ℕ, _+_, _-_, _<_, _≤_}
+use Prim.Native.Nat.{ℕ, _+_, _-_, _≤_}
 use native.Mathlib.Omega.{arith}
 use mathlib.Core.Path.{_≡_, refl, sym, _∙_}
 use mathlib.Core.List.{List, _++_}
-use lib.ListN.{length, take, drop, getD, length-drop, length-append, take-append-drop, List·getD-append}
-use lib.Seq.{length-take-le, drop-at, take-at, drop-drop, take-append-le, drop-append-le, getD-take, getD-drop}
+use lib.ListN.{length, take, drop, length-drop, length-append, take-append-drop}
+use lib.Seq.{length-take-le, drop-at, take-at, drop-drop, take-append-le, drop-append-le}
 use Rattle.net.specs.Lists.{splice}
 
 module _ (l v : List ℕ) (i : ℕ) (fits : i + length v ≤ length l) where
@@ -34,12 +34,3 @@ module _ (l v : List ℕ) (i : ℕ) (fits : i + length v ≤ length l) where
       let g : (x : List ℕ) → drop j x ≡ drop (j - i) (drop i x) = λ x. sym (drop-drop (j - i) i x ∙ rw e) in
       let k : (x : List ℕ) → drop (j - i) x ≡ drop (j - i - length v) (drop (length v) x) = λ x. sym (drop-drop (j - i - length v) (length v) x ∙ rw f) in
       g (splice l i v) ∙ rw splice-from (k (v ++ drop (length v) (drop i l)) ∙ rw (drop-at v (drop (length v) (drop i l)) (length v) refl) (sym (k (drop i l)) ∙ sym (g l)))
-
-  pub splice-at-before : (j : ℕ) → j < i → getD (splice l i v) j 0 ≡ getD l j 0
-  splice-at-before j h = List·getD-append (take i l) (v ++ drop (length v) (drop i l)) 0 j (omega (arith, taken)) ∙ getD-take i l j 0 h
-
-  pub splice-at-after : (j : ℕ) → i + length v ≤ j → getD (splice l i v) j 0 ≡ getD l j 0
-  splice-at-after j h =
-      let z : j + 0 ≡ j = omega arith in
-      let g : (x : List ℕ) → getD x j 0 ≡ getD (drop j x) 0 0 = λ x. sym (getD-drop j x 0 0 ∙ rw z) in
-      g (splice l i v) ∙ rw (splice-after j h) (sym (g l))

@@ -29,10 +29,6 @@ pub length-added : (d : List ℕ) (a y : ℕ) → length (added d a y) ≡ lengt
 unfolding added
 length-added d a y = length-raised d (outputs a y)
 
-pub length-after : (d : List ℕ) (a x y : ℕ) → length (after d a x y) ≡ length d
-unfolding after
-length-after d a x y = length-added (taken d a x) a y ∙ length-taken d a x
-
 length-unadded : (d : List ℕ) (a y : ℕ) → length (unadded d a y) ≡ length d
 unfolding unadded
 length-unadded d a y = length-lowered d (outputs a y)

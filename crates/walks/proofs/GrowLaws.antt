@@ -1,14 +1,13 @@
--- Names, arcs, walks and activities of an orderly net are those of each net that it is contained in, since its sets are there too. Assumes nothing.
+-- Names, arcs and walks of an orderly net are those of each net that it is contained in, since its sets are there too. Assumes nothing.
 use Prim.Native.Nat.{ℕ}
-use mathlib.Core.Path.{subst, _∙_}
 use Rattle.net.specs.Orderly.{Orderly}
 use Rattle.net.specs.Contained.{Contained}
 use Rattle.net.specs.declared.Net.{Net}
 use Rattle.net.specs.declared.Side.{Side}
 use Rattle.net.specs.declared.Side.the-variants.{Input, Output}
-use Rattle.net.proofs.OrderlyLaws.{facts-orderly, on-side-activity}
+use Rattle.net.proofs.OrderlyLaws.{facts-orderly}
 use Rattle.walks.specs.Arcs.{Names, Arc}
-use Rattle.walks.specs.Walk.{Walk, InNet, the-start, the-end, with-a-set, in-a-set, OnWalk}
+use Rattle.walks.specs.Walk.{Walk}
 use Rattle.walks.proofs.AlongLaws.{along-map}
 use Rattle.walks.proofs.WalkLaws.{names-activity}
 
@@ -21,15 +20,3 @@ module _ (net other : Net) (o : Orderly net) (c : Contained net other) where
 
   pub walk-grows : {a b : ℕ} → Walk net a b → Walk other a b
   walk-grows w = along-map arcs-grow w
-
-  pub on-walk-grows : (a : ℕ) → OnWalk net a → OnWalk other a
-  on-walk-grows a w = record {
-    from-start = subst (λ (s : ℕ). Walk other s a) (c .same-start) (walk-grows (w .from-start));
-    to-end = subst (λ (e : ℕ). Walk other a e) (c .same-end) (walk-grows (w .to-end));
-  }
-
-  pub in-net-grows : (a : ℕ) → InNet net a → InNet other a
-  in-net-grows a (the-start e) = the-start (e ∙ c .same-start)
-  in-net-grows a (the-end e) = the-end (e ∙ c .same-end)
-  in-net-grows a (with-a-set side m h) = with-a-set side m (c .among side a m (on-side-activity net (facts-orderly net o) side a m h) h)
-  in-net-grows a (in-a-set side b l n) = in-a-set side b l (names-grow side b a n)
