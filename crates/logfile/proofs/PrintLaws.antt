@@ -1,5 +1,5 @@
 -- Laws of a row's print: sessions and a trace are read exactly from their prints, a row's print has these two fields, and it is
--- the print of no other row: a number of 20 digits or more is printed in 20, and so as no number of fewer. Assumes nothing.
+-- the print of no other row. Assumes nothing.
 use Prim.Native.Nat.{ℕ, _≤_, _<_, _^_}
 use mathlib.Core.Path.{_≡_, refl, sym, ap, ap₂, _∙_}
 use mathlib.Core.Logic.{_↔_, ⊎-elim}

@@ -10,8 +10,7 @@ use native.Mathlib.Numerals.{add-one}
 use native.Mathlib.Omega.{arith}
 use borrow.Author.Tests.{le-leb, leb-true, lt-ltb, ltb-true}
 use lib.Dec.{leb, ltb}
-use lib.ListN.{length, drop, length-drop, length-map}
-use lib.Seq.{drop-cons}
+use lib.ListN.{length, drop, length-map}
 use Rattle.obligations.specs.Limits.{positions}
 use Rattle.obligations.proofs.BoolLaws.{true-or-false, false-not-true, and-left, and-right, and-both}
 use Rattle.obligations.proofs.SetLaws.{lt-or-le}
@@ -22,9 +21,10 @@ use Rattle.text.specs.Decimal.{value, allNumbers, values, printNumber}
 use Rattle.text.specs.Members.{highest}
 use Rattle.text.proofs.ByteLaws.{same-exactly}
 use Rattle.text.proofs.FieldLaws.{count-split}
+use Rattle.text.proofs.LineLaws.{line-next, none-next}
 use Rattle.net.specs.Refusals.{outside-limits, line-form, number-form}
 use Rattle.net.specs.Sentences.{Sentence, whole, NoneHolds, orderOnLine, AsListedByLine}
-use Rattle.net.proofs.SentenceLaws.{ascends, InOrder, Told, told-end, whole-link, ToldFrom, passed-all, line-passes, line-stops, line-told, told-by-line, refused-same, accepted-not-refused}
+use Rattle.net.proofs.SentenceLaws.{ascends, InOrder, Told, told-end, whole-link, ToldFrom, passed-all, line-passes, line-stops, line-told, told-by-line, refused-same, accepted-not-refused, holds-whole}
 use Rattle.logfile.specs.Limits.{logBytes, logRows}
 use Rattle.logfile.specs.LogFile.{Reading, row, end, fault, isSessions, entries, readFields, readParts, readLine, past, rowAfter, logHeader, afterHeader, sizesOk, readRow, RowSays, rowMeans, readingSays}
 use Rattle.logfile.specs.Refusals.{LineIs, traceText, rowText, OutsideLimits, CommasDiffer, NumbersDiffer, RowExceeds, UpToRow, lineRefusals, rowRefusals}
@@ -117,13 +117,10 @@ module _ (text : List ℕ) (r n : ℕ) (l : List ℕ) (at : LineIs text n l) (h 
 -- the line with m others before it, and the lines after it
 rest-line : (text : List ℕ) (m : ℕ) (l : List ℕ) (ls : List (List ℕ)) → drop m (lines text) ≡ l ∷ ls → LineIs text (suc m) l × (drop (suc m) (lines text) ≡ ls)
 rest-line text m l ls d =
-    let h : m < length (lines text) = omega (arith, length-drop m (lines text), ap length d) in
-    let c = drop-cons (lines text) m [] h in
-    let z : suc m - 1 ≡ m = omega arith in
-    (record { low = omega arith; high = h; there = rw z (cc) }, (cc))
+    let w = line-next text m l ls d in (record { low = omega arith; high = w .0; there = w .1 }, w .2)
 
 rest-none : (text : List ℕ) (m n : ℕ) → drop m (lines text) ≡ [] → m < n → (l : List ℕ) → LineIs text n l → ⊥
-rest-none text m n d h l at = omega (arith, length-drop m (lines text), ap length d, at .high)
+rest-none text m n d h l at = none-next text m n d h (at .high)
 
 same-answer : (n m p q : ℕ) → rowMeans (Refused n p) ≡ rowMeans (Refused m q) → (n ≡ m) × (p ≡ q)
 same-answer n m p q e = refused-same n m p q (ap (λ (x : RowSays). x .says) e)
@@ -189,10 +186,10 @@ module _ (text : List ℕ) (r room : ℕ) where
           (next .0, next .1, line-passes refusal sentences (next .0) 1 _ (λ n p. ⊎-elim (λ w. w .1 .bad (subst (LineIs text 1) (same-exactly l logHeader .0 q) (a .0))) (λ w. w)) (next .2))
       right false l ls e q =
           let a = rest-line text 0 l ls e in
-          (readingSays end, end-answers, line-stops refusal sentences _ 1 line-form (inl (refl, record { bad = λ at. false-not-true q (same-exactly l logHeader .1 (line-same (a .0) at)); at-none = refl })))
+          (readingSays end, end-answers, line-stops refusal sentences _ 1 line-form (inl (refl, holds-whole (λ at. false-not-true q (same-exactly l logHeader .1 (line-same (a .0) at))))))
 
       go : (ls : List (List ℕ)) → lines text ≡ ls → Answer 1 (readingSays (afterHeader (r - 1) ls))
-      go [] e = (readingSays end, end-answers, line-stops refusal sentences _ 1 line-form (inl (refl, record { bad = rest-none text 0 1 e (omega arith) logHeader; at-none = refl })))
+      go [] e = (readingSays end, end-answers, line-stops refusal sentences _ 1 line-form (inl (refl, holds-whole (rest-none text 0 1 e (omega arith) logHeader))))
       go (l ∷ ls) e = right (sameBytes l logHeader) l ls e refl
 
   sizes-none : ltb 0 r && sizesOk text room ≡ true → OutsideLimits text r room → ⊥
@@ -217,7 +214,7 @@ module _ (text : List ℕ) (r room : ℕ) where
       go true q =
           let next = header-told (ltb-true 0 r (and-left (ltb 0 r) (sizesOk text room) q)) in
           (next .0, next .1, line-passes refusal sentences (next .0) 0 _ (λ n p. ⊎-elim (λ b. sizes-none q (b .1 .bad)) (λ b. b)) (next .2))
-      go false q = (readingSays end, end-answers, line-stops refusal sentences _ 0 outside-limits (inl (refl, record { bad = sizes-some q; at-none = refl })))
+      go false q = (readingSays end, end-answers, line-stops refusal sentences _ 0 outside-limits (inl (refl, holds-whole (sizes-some q))))
 
   orders : (l : ℕ) → ascends orderOnLine 0 (sentences l) ≡ true
   unfolding ascends

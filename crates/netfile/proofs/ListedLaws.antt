@@ -11,14 +11,14 @@ use mathlib.Core.Bool.{Bool, true, false, cond, not, _||_}
 use mathlib.Core.List.{List, [], _∷_}
 use mathlib.Core.Logic.{_⊎_, inl, inr, ⊎-elim, _↔_}
 use lib.Dec.{leb, eqb}
-use lib.ListN.{length, getD, drop, length-drop, List·getD-eq-default}
-use lib.Seq.{drop-cons}
+use lib.ListN.{length, getD, drop, List·getD-eq-default}
 use borrow.Author.Tests.{leb-true, leb-false, eqb-true, eqb-false, lt-ltb}
 use Rattle.obligations.specs.Limits.{activities}
 use Rattle.obligations.proofs.BoolLaws.{false-not-true}
 use Rattle.text.specs.Bytes.{sameBytes}
 use Rattle.text.specs.Lines.{lines, HasLine, lineAt}
 use Rattle.text.proofs.ByteLaws.{same-exactly}
+use Rattle.text.proofs.LineLaws.{line-next, none-next}
 use Rattle.net.specs.Refusals.{Says, accepted, refused, bad-ends, outside-limits, misplaced-set, full-side, line-form, number-form}
 use Rattle.net.specs.Limits.{sets}
 use Rattle.net.specs.Sentences.{NoneHolds, orderOnLine, AsListedByLine}
@@ -70,9 +70,6 @@ put-said net side a m o h k = go (misplaced (emptyAt net side) a m) refl (listed
 -- ---- lines by their numbers
 
 module _ (text : List ℕ) where
-  line-at : (i : ℕ) → lineAt text (suc i) ≡ getD (lines text) i []
-  line-at i = let e : suc i - 1 ≡ i = omega arith in ap (λ (k : ℕ). getD (lines text) k []) e
-
   line-missing : (n : ℕ) → (HasLine text n → ⊥) → lineAt text n ≡ []
   line-missing n f = List·getD-eq-default (lines text) [] {n = n - 1} (omega arith)
 
@@ -214,14 +211,11 @@ module _ (text : List ℕ) where
       → Told (suc (suc (suc (suc j)))) (readRows (suc (suc (suc (suc j)))) net ls .says)
   unfolding readRows
   rows-told j net [] e s =
-      passed-all (λ l h. none-missing l (omega arith) (λ k. let d = ap length e in omega (arith, length-drop (suc (suc (suc j))) (lines text))))
+      passed-all (λ l h. none-missing l (omega arith) (none-next text (suc (suc (suc j))) l e (omega arith)))
   rows-told j net (l ∷ ls) e s =
-      let inside : suc (suc (suc j)) < length (lines text) = let d = ap length e in omega (arith, length-drop (suc (suc (suc j))) (lines text)) in
-      let d = drop-cons (lines text) (suc (suc (suc j))) [] inside in
-      let p : getD (lines text) (suc (suc (suc j))) [] ≡ l = cc in
-      let q : drop (suc (suc (suc (suc j)))) (lines text) ≡ ls = cc in
-      let r : RowSaid (lineAt text (suc (suc (suc (suc j))))) (readRow l) = rw (← p, ← line-at (suc (suc (suc j)))) (row-said (lineAt text (suc (suc (suc (suc j)))))) in
-      row-told j net ls s (omega arith) r (λ net′ t. rw add-one (rows-told (suc j) net′ ls q t))
+      let w = line-next text (suc (suc (suc j))) l ls e in
+      let r : RowSaid (lineAt text (suc (suc (suc (suc j))))) (readRow l) = rw (← w .1) (row-said (lineAt text (suc (suc (suc (suc j)))))) in
+      row-told j net ls s (w .0) r (λ net′ t. rw add-one (rows-told (suc j) net′ ls (w .2) t))
 
   -- ---- the lines before the rows
 
@@ -260,14 +254,11 @@ module _ (text : List ℕ) where
 
   from-third : (start : ℕ) (ls : List (List ℕ)) → IsEnd startWord start (lineAt text 2) → drop 2 (lines text) ≡ ls → Told 3 (fromEnd start ls .says)
   unfolding fromEnd InOrder
-  from-third start [] s e = stops 3 line-form (inl (refl, holds-whole (inl (λ h. let d = ap length e in omega (arith, length-drop 2 (lines text))))))
+  from-third start [] s e = stops 3 line-form (inl (refl, holds-whole (inl (none-next text 2 3 e (omega arith)))))
   from-third start (l ∷ ls) s e =
-      let inside : 2 < length (lines text) = let d = ap length e in omega (arith, length-drop 2 (lines text)) in
-      let d = drop-cons (lines text) 2 [] inside in
-      let p : getD (lines text) 2 [] ≡ l = cc in
-      let q : drop 3 (lines text) ≡ ls = cc in
-      let r : EndSaid endWord (lineAt text 3) (readEnd endWord l) = rw (← p) (end-said endWord (lineAt text 3)) in
-      third-told start ls s (omega arith) q r
+      let w = line-next text 2 l ls e in
+      let r : EndSaid endWord (lineAt text 3) (readEnd endWord l) = rw (← w .1) (end-said endWord (lineAt text 3)) in
+      third-told start ls s (w .0) (w .2) r
 
   second-told : (ls : List (List ℕ)) → HasLine text 2 → drop 2 (lines text) ≡ ls → {row : EndLine} → EndSaid startWord (lineAt text 2) row → Told 2 (afterStart row ls .says)
   unfolding InOrder
@@ -278,29 +269,26 @@ module _ (text : List ℕ) where
 
   from-second : (ls : List (List ℕ)) → drop 1 (lines text) ≡ ls → Told 2 (fromStart ls .says)
   unfolding fromStart InOrder
-  from-second [] e = stops 2 line-form (inl (refl, holds-whole (inl (λ h. let d = ap length e in omega (arith, length-drop 1 (lines text))))))
+  from-second [] e = stops 2 line-form (inl (refl, holds-whole (inl (none-next text 1 2 e (omega arith)))))
   from-second (l ∷ ls) e =
-      let inside : 1 < length (lines text) = let d = ap length e in omega (arith, length-drop 1 (lines text)) in
-      let d = drop-cons (lines text) 1 [] inside in
-      let p : getD (lines text) 1 [] ≡ l = cc in
-      let q : drop 2 (lines text) ≡ ls = cc in
-      let r : EndSaid startWord (lineAt text 2) (readEnd startWord l) = rw (← p) (end-said startWord (lineAt text 2)) in
-      second-told ls (omega arith) q r
+      let w = line-next text 1 l ls e in
+      let r : EndSaid startWord (lineAt text 2) (readEnd startWord l) = rw (← w .1) (end-said startWord (lineAt text 2)) in
+      second-told ls (w .0) (w .2) r
 
   from-first : (ls : List (List ℕ)) → lines text ≡ ls → Told 1 (fromHeader ls .says)
   unfolding fromHeader InOrder
-  from-first [] e = stops 1 line-form (inl (refl, holds-whole (inl (λ h. let d = ap length e in omega arith))))
+  from-first [] e = stops 1 line-form (inl (refl, holds-whole (inl (none-next text 0 1 e (omega arith)))))
   from-first (l ∷ ls) e = go (sameBytes l netHeader) refl
     where
-      is-first : lineAt text 1 ≡ l
-      is-first = ap (λ (k : List (List ℕ)). getD k 0 []) e
+      w : HasLine text 1 × (lineAt text 1 ≡ l) × (drop 1 (lines text) ≡ ls)
+      w = line-next text 0 l ls e
 
       go : (t : Bool) → sameBytes l netHeader ≡ t → Told 1 (cond t (fromStart ls) (refusedAt line-form 1) .says)
       go true q =
           passes 1 _
-          (λ n p. ⊎-elim (λ w. ⊎-elim (λ m. m (let d = ap length e in omega arith)) (λ f. f (is-first ∙ same-exactly l netHeader .0 q)) (w .1 .bad)) (λ w. w))
-          (from-second ls (ap (drop 1) e))
-      go false q = stops 1 line-form (inl (refl, holds-whole (inr (λ h. false-not-true q (same-exactly l netHeader .1 (sym is-first ∙ h))))))
+          (λ n p. ⊎-elim (λ b. ⊎-elim (λ m. m (w .0)) (λ f. f (w .1 ∙ same-exactly l netHeader .0 q)) (b .1 .bad)) (λ b. b))
+          (from-second ls (w .2))
+      go false q = stops 1 line-form (inl (refl, holds-whole (inr (λ h. false-not-true q (same-exactly l netHeader .1 (sym (w .1) ∙ h))))))
 
   pub net-told : ToldFrom refused (netRefusals text) (accepted 0) 0 (readNet text .says)
   unfolding readNet InOrder

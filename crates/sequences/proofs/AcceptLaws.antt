@@ -30,23 +30,33 @@ use Rattle.sequences.proofs.FitLaws.{Placed, fits-exactly}
 
 -- ---- refusal 9
 
+-- X is empty or filled at a position as it has to be, and Y
+abbrev Agree : List Binding → ℕ → Type 0
+Agree s i = ((at s i .input ≡ 0) ↔ (i ≡ 0)) × ((at s i .output ≡ 0) ↔ (i + 1 ≡ length s))
+
+pub agree-exactly : (s : List Binding) (i : ℕ) → (emptyAgree s i ≡ true) ↔ Agree s i
+unfolding emptyAgree
+agree-exactly s i =
+    let x = Bool·beq (eqb (at s i .input) 0) (eqb i 0) in
+    let y = Bool·beq (eqb (at s i .output) 0) (eqb (i + 1) (length s)) in
+    let f = agree-iff (at s i .input) 0 i 0 in
+    let g = agree-iff (at s i .output) 0 (i + 1) (length s) in
+    ((λ t. (f .0 (and-left x y t), g .0 (and-right x y t))), (λ w. and-both (f .1 (w .0)) (g .1 (w .1))))
+
 -- X is empty at the first position only, and Y at the last only
 pub record EmptyWhere (s : List Binding) : Type 0 where
   pub inputs : (i : ℕ) → i < length s → (at s i .input ≡ 0) ↔ (i ≡ 0)
   pub outputs : (i : ℕ) → i < length s → (at s i .output ≡ 0) ↔ (i + 1 ≡ length s)
 
 pub empty-facts : (s : List Binding) → firstWronglyEmpty s ≡ 0 → EmptyWhere s
-unfolding firstWronglyEmpty emptyAgree
+unfolding firstWronglyEmpty
 empty-facts s e =
     let each = first-pass (length s) (emptyAgree s) e in
-    record {
-      inputs = λ i l. agree-iff (at s i .input) 0 i 0 .0 (and-left (Bool·beq (eqb (at s i .input) 0) (eqb i 0)) (Bool·beq (eqb (at s i .output) 0) (eqb (i + 1) (length s))) (each i l));
-      outputs = λ i l. agree-iff (at s i .output) 0 (i + 1) (length s) .0 (and-right (Bool·beq (eqb (at s i .input) 0) (eqb i 0)) (Bool·beq (eqb (at s i .output) 0) (eqb (i + 1) (length s))) (each i l));
-    }
+    record { inputs = λ i l. agree-exactly s i .0 (each i l) .0; outputs = λ i l. agree-exactly s i .0 (each i l) .1 }
 
 pub facts-empty : (s : List Binding) → EmptyWhere s → firstWronglyEmpty s ≡ 0
-unfolding firstWronglyEmpty emptyAgree
-facts-empty s f = pass-first (length s) (emptyAgree s) (λ i l. and-both (agree-iff (at s i .input) 0 i 0 .1 (f .inputs i l)) (agree-iff (at s i .output) 0 (i + 1) (length s) .1 (f .outputs i l)))
+unfolding firstWronglyEmpty
+facts-empty s f = pass-first (length s) (emptyAgree s) (λ i l. agree-exactly s i .1 (f .inputs i l, f .outputs i l))
 
 -- ---- no set is misplaced in a sequence whose ends and empty sets are where they have to be
 

@@ -1,22 +1,21 @@
 -- Learn, follow and judge answer as their refusals are listed: each test of a call's chain fails exactly where its sentence holds,
 -- given that the tests before it have passed. Assumes nothing.
-use Prim.Native.Nat.{ℕ, _+_, _/_, _%_, _<_}
+use Prim.Native.Nat.{ℕ, _/_, _%_, _<_}
 use mathlib.Core.Path.{_≡_, refl, ap, subst, _∙_}
-use mathlib.Core.Bool.{true, false, _&&_, Bool·beq}
+use mathlib.Core.Bool.{true, false, _&&_}
 use mathlib.Core.List.{List, [], _∷_}
-use mathlib.Core.Logic.{_↔_, _⊎_, inl, inr, ⊎-elim}
+use mathlib.Core.Logic.{_⊎_, inl, inr, ⊎-elim}
 use native.Mathlib.Decide.{ℕ-discrete as decEq}
 use native.Mathlib.Omega.{arith}
 use borrow.Author.Tests.{leb-true, leb-false}
-use lib.Dec.{eqb}
 use lib.ListN.{length}
 use Rattle.obligations.specs.Limits.{positions}
 use Rattle.obligations.specs.State.{allZero}
 use Rattle.obligations.specs.Trace.{shaped}
-use Rattle.obligations.specs.Sequence.{Binding, bindings, at, ψ, NothingLeft, possibleAt, firstImpossible}
+use Rattle.obligations.specs.Sequence.{Binding, bindings, ψ, NothingLeft, possibleAt, firstImpossible}
 use Rattle.obligations.proofs.BoolLaws.{and-left, and-right, and-both, false-not-true}
 use Rattle.obligations.proofs.SetLaws.{lt-or-le}
-use Rattle.obligations.proofs.TraceLaws.{agree-iff, shaped-facts, activities-below, shaped-ext}
+use Rattle.obligations.proofs.TraceLaws.{shaped-facts, activities-below, shaped-ext}
 use Rattle.obligations.proofs.SequenceLaws.{possible-at, zero-left, length-bindings}
 use Rattle.net.specs.Refusals.{Says, accepted, refused, outside-limits, missing-set, wrongly-empty, not-possible, left-over, full-side}
 use Rattle.net.specs.Sentences.{Sentence, first, AsListed}
@@ -38,7 +37,7 @@ use Rattle.sequences.specs.Judge.{Missing, judgeRefusals, onSideAt, firs
 use Rattle.sequences.proofs.LimitLaws.{words-uneven, words-many, words-fit}
 use Rattle.sequences.proofs.GrowthLaws.{Activities}
 use Rattle.sequences.proofs.FitLaws.{Placed, fits-exactly}
-use Rattle.sequences.proofs.AcceptLaws.{empty-facts, well-placed}
+use Rattle.sequences.proofs.AcceptLaws.{empty-facts, well-placed, agree-exactly}
 use Rattle.sequences.proofs.FollowLaws.{length-followed, followed-activity}
 use Rattle.sequences.proofs.FollowLearnLaws.{followed-empty-where}
 
@@ -56,21 +55,6 @@ words-some ws e = elim (decEq (length ws % 3) 0) [
   | yes q ↦ ⊎-elim (λ l. inr (omega (arith, length-bindings ws (length ws / 3) (omega arith)))) (λ l. absurd (false-not-true e (words-fit ws q l))) (lt-or-le positions (length ws / 3))
   | no d ↦ inl d
 ]
-
--- ---- 9
-
--- X is empty or filled at a position as it has to be, and Y
-abbrev Agree : List Binding → ℕ → Type 0
-Agree s i = ((at s i .input ≡ 0) ↔ (i ≡ 0)) × ((at s i .output ≡ 0) ↔ (i + 1 ≡ length s))
-
-agree-exactly : (s : List Binding) (i : ℕ) → (emptyAgree s i ≡ true) ↔ Agree s i
-unfolding emptyAgree
-agree-exactly s i =
-    let x = Bool·beq (eqb (at s i .input) 0) (eqb i 0) in
-    let y = Bool·beq (eqb (at s i .output) 0) (eqb (i + 1) (length s)) in
-    let f = agree-iff (at s i .input) 0 i 0 in
-    let g = agree-iff (at s i .output) 0 (i + 1) (length s) in
-    ((λ t. (f .0 (and-left x y t), g .0 (and-right x y t))), (λ w. and-both (f .1 (w .0)) (g .1 (w .1))))
 
 -- ---- the links that learn and judge share
 

@@ -1,6 +1,6 @@
 -- Laws of decimal numbers: what a reader's answer says of its field; that what is printed is all digits, well led, and
 -- read as the number that was printed; and that nothing else is read as that number, since digits after a number that
--- isn't 0 are printed after it. Assumes nothing.
+-- isn't 0 are printed after it. A number of 20 digits or more is printed in 20, and so as no number of fewer. Assumes nothing.
 use Prim.Native.Nat.{ℕ, zero, suc, _+_, _*_, _-_, _≤_, _<_, _^_, _%_, _/_}
 use mathlib.Core.Path.{_≡_, refl, sym, ap, ap₂, _∙_}
 use mathlib.Core.Logic.{_↔_, ⊎-elim}

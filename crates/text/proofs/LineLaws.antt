@@ -1,5 +1,5 @@
 -- Laws of lines: the first line of a rest ends at its first CR LF and the others follow it, and lines that were written
--- are read again. By induction on the text. Assumes nothing.
+-- are read again, by induction on the text; and a line's number is one more than the lines before it. Assumes nothing.
 use Prim.Native.Nat.{ℕ, suc, _+_, _-_, _≤_, _<_}
 use mathlib.Core.Path.{_≡_, refl, sym, ap, _∙_}
 use mathlib.Core.Bool.{Bool, true, false, _&&_}
@@ -9,9 +9,9 @@ use native.Mathlib.Omega.{arith}
 use borrow.Author.Tests.{leb-true, leb-false}
 use lib.Dec.{eqb, leb}
 use lib.ListN.{length, getD, take, drop, length-drop, drop-of-length-le}
-use lib.Seq.{slice, drop-drop}
+use lib.Seq.{slice, drop-drop, drop-cons}
 use Rattle.text.specs.Bytes.{count}
-use Rattle.text.specs.Lines.{cr, lf, startsCrLf, lines, unlines, lineLength, lineEnd, nextLine}
+use Rattle.text.specs.Lines.{cr, lf, startsCrLf, lines, unlines, lineLength, lineEnd, nextLine, HasLine, lineAt}
 use Rattle.text.proofs.ByteLaws.{drop-step, take-drop, count-none-head, count-none-tail}
 
 -- ---- CR LF
@@ -92,3 +92,16 @@ unlines-append (k ∷ ks) ls = rw (unlines-append ks ls) (sym (append-assoc k (c
 pub lines-unlines : (ls : List (List ℕ)) → ((l : List ℕ) → List·Memᴰ l ls → count cr l ≡ 0) → lines (unlines ls) ≡ ls
 lines-unlines [] h = refl
 lines-unlines (l ∷ ls) h = line-first l (unlines ls) (h l (List·Memᴰ·head refl)) ∙ ap (λ (r : List (List ℕ)). l ∷ r) (lines-unlines ls (λ k m. h k (List·Memᴰ·tail m)))
+
+-- ---- lines by their numbers
+
+-- after m lines the next is line m + 1, and where none is left there is no line of a higher number
+pub line-next : (text : List ℕ) (m : ℕ) (l : List ℕ) (ls : List (List ℕ)) → drop m (lines text) ≡ l ∷ ls → HasLine text (suc m) × (lineAt text (suc m) ≡ l) × (drop (suc m) (lines text) ≡ ls)
+line-next text m l ls d =
+    let h : m < length (lines text) = omega (arith, length-drop m (lines text), ap length d) in
+    let c = drop-cons (lines text) m [] h in
+    let z : suc m - 1 ≡ m = omega arith in
+    (h, rw z (cc), (cc))
+
+pub none-next : (text : List ℕ) (m n : ℕ) → drop m (lines text) ≡ [] → m < n → HasLine text n → ⊥
+none-next text m n d h k = omega (arith, length-drop m (lines text), ap length d)
