@@ -19,7 +19,8 @@ use Rattle.net.proofs.FreshLaws.{fresh-orderly}
 use Rattle.net.proofs.SentenceLaws.{accepted-not-refused}
 use Rattle.net.proofs.Theorems.{fresh-made, contained-said}
 use Rattle.walks.specs.Check.{checkSays}
-use Rattle.walks.proofs.Theorems.{passes-says, said-passes}
+use Rattle.walks.proofs.CheckLaws.{said-passes}
+use Rattle.walks.proofs.Theorems.{passes-says}
 use Rattle.sequences.specs.Learn.{newSets}
 use Rattle.promises.specs.Calls.{Call, sequenceOf, refusals, says, gives, grown, answers}
 use Rattle.promises.specs.Promise.{Called, Runs, none-left, accepts, refuses, Promise, Promised}

@@ -3,7 +3,7 @@
 use mathlib.Core.Path.{sym, ap, _∙_}
 use lib.ListN.{length}
 use Rattle.net.specs.Refusals.{Says}
-use Rattle.walks.proofs.Theorems.{said-passes}
+use Rattle.walks.proofs.CheckLaws.{said-passes}
 use Rattle.search.proofs.Theorems.{none-holds-replayable, unrefused-call}
 use Rattle.report.specs.Report.{rowBudget, rowText, readingText}
 use Rattle.report.specs.Statements.{RowIsReplay}

@@ -6,7 +6,7 @@ use mathlib.Core.Logic.{⊎-elim, _↔_}
 use mathlib.Core.Bool.{Bool, true, false, not, cond, _&&_}
 use mathlib.Core.List.{List, [], _∷_}
 use native.Mathlib.Omega.{arith}
-use borrow.Author.Tests.{eqb-true, eqb-false, eq-eqb, ne-eqb}
+use borrow.Author.Tests.{eqb-true, eqb-false, eq-eqb}
 use lib.Dec.{eqb}
 use lib.Count.{trailingZeros}
 use lib.ListN.{getD}
@@ -15,14 +15,14 @@ use Rattle.obligations.proofs.BoolLaws.{true-or-false, false-not-true, and-left
 use Rattle.obligations.proofs.SetLaws.{member-none, no-members}
 use Rattle.obligations.proofs.MemberLaws.{members-walk}
 use Rattle.obligations.proofs.LowestLaws.{lowest-activity, lowest-member, none-below}
-use Rattle.net.specs.Refusals.{accepted, refused, on-no-walk, Says}
+use Rattle.net.specs.Refusals.{accepted, refused, on-no-walk, Says, disorderly}
 use Rattle.net.specs.Sentences.{Sentence, Lowest, AsListed}
 use Rattle.net.specs.Orderly.{orderly}
 use Rattle.net.specs.declared.Net.{Net}
 use Rattle.net.proofs.OrderlyLaws.{orderly-facts, on-side-activity}
 use Rattle.net.proofs.SentenceLaws.{ascends, Told, told-end, told-link, chain-listed}
 use Rattle.net.proofs.CommonLaws.{orderly-link}
-use Rattle.net.proofs.ChainLaws.{unless-at-passes}
+use Rattle.net.proofs.ChainLaws.{unless-at-passes, unless-passes}
 use Rattle.walks.specs.Arcs.{arcs}
 use Rattle.walks.specs.Walk.{InNet, the-start, the-end, with-a-set, in-a-set, OnWalk, Passes}
 use Rattle.walks.specs.Rows.{reach}
@@ -73,10 +73,6 @@ module _ (net : Net) (o : orderly net ≡ true) where
   unfolding checkSays onWalks
   says-none-lost e = rw (o, eq-eqb (lost net) 0 e)
 
-  pub says-lost : (lost net ≡ 0 → ⊥) → checkSays net ≡ refused on-no-walk (lowestMember (lost net))
-  unfolding checkSays onWalks
-  says-lost n = rw (o, ne-eqb (lost net) 0 n)
-
   pub none-lost-passes : lost net ≡ 0 → Passes net
   none-lost-passes e = record { is-orderly = orderly-facts net o; on-walks = λ a i. not-lost a (in-net-activity a i) (ap (λ (m : ℕ). member m a) e ∙ member-none a) i }
 
@@ -108,13 +104,18 @@ walks-pass net rest =
 
 -- ---- the call
 
-pub check-listed : (net : Net) → AsListed refused (checkRefusals net) (checkSays net)
-unfolding checkSays onWalks ascends
-check-listed net =
-    chain-listed (checkRefusals net) refl (arcs net)
-    (orderly-link refused (accepted (arcs net)) _ _ net (λ o. walks-link net o refused (accepted (arcs net)) [] _ (λ e. told-end refused (accepted (arcs net)))))
+pub check-told : (net : Net) → Told refused (checkRefusals net) (accepted (arcs net)) (checkSays net)
+unfolding checkSays onWalks
+check-told net =
+    orderly-link refused (accepted (arcs net)) _ _ net (λ o. walks-link net o refused (accepted (arcs net)) [] _ (λ e. told-end refused (accepted (arcs net))))
 
--- a net of which the check says no refusal is orderly
-pub said-orderly : (net : Net) → checkSays net .ok ≡ true → orderly net ≡ true
+pub check-listed : (net : Net) → AsListed refused (checkRefusals net) (checkSays net)
+unfolding ascends
+check-listed net = chain-listed (checkRefusals net) refl (arcs net) (check-told net)
+
+-- a net of which the check says no refusal passes
+pub said-passes : (net : Net) → checkSays net .ok ≡ true → Passes net
 unfolding checkSays
-said-orderly net e = ⊎-elim (λ o. o) (λ o. absurd (false-not-true (refl {a = false}) (rw o at e))) (true-or-false (orderly net))
+said-passes net e =
+    let c₂ = unless-passes (orderly net) disorderly _ .0 e in
+    none-lost-passes net (c₂ .0) (walks-pass net _ .0 (c₂ .1) .0)
