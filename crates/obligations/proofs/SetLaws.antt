@@ -157,6 +157,14 @@ subset-members m n hm hn e k t = ⊎-elim (λ h. h) (λ f. absurd (false-not-tru
     kept : member n k ≡ false → member (minus m n) k ≡ true
     kept f = member-minus m n k hm hn ∙ rw (t, f)
 
+pub members-subset : (m n : ℕ) → m < 2 ^ 32 → n < 2 ^ 32 → ((k : ℕ) → member m k ≡ true → member n k ≡ true) → subset m n ≡ true
+unfolding subset
+members-subset m n hm hn h = eq-eqb (minus m n) 0 (no-members (minus m n) (minus-lt m n hm) (λ k l. member-minus m n k hm hn ∙ out k (true-or-false (member m k))))
+  where
+    out : (k : ℕ) → (member m k ≡ true) ⊎ (member m k ≡ false) → member m k && not (member n k) ≡ false
+    out k (inl t) = rw (t, h k t)
+    out k (inr f) = rw f
+
 -- ---- a set of one
 
 pub single-has : (k : ℕ) → k < 32 → member (single k) k ≡ true
