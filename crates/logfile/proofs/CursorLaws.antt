@@ -14,7 +14,8 @@ use Rattle.obligations.specs.Limits.{positions}
 use Rattle.obligations.proofs.BoolLaws.{and-left}
 use Rattle.obligations.proofs.SetLaws.{lt-or-le}
 use Rattle.text.specs.Bytes.{sameBytes}
-use Rattle.text.specs.Lines.{lines, lineEnd, nextLine}
+use Rattle.text.specs.Lines.{lines}
+use Rattle.text.specs.Inner.{lineEnd, nextLine}
 use Rattle.text.specs.Fields.{comma, split}
 use Rattle.text.specs.Decimal.{value, allNumbers, values}
 use Rattle.text.specs.Members.{highest}

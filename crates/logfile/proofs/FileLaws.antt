@@ -15,7 +15,8 @@ use Rattle.obligations.proofs.BoolLaws.{and-left, and-right, and-both, false-no
 use Rattle.obligations.proofs.SetLaws.{lt-or-le}
 use Rattle.net.specs.Refusals.{outside-limits, line-form}
 use Rattle.text.specs.Bytes.{sameBytes}
-use Rattle.text.specs.Lines.{lines, lineEnd, nextLine}
+use Rattle.text.specs.Lines.{lines}
+use Rattle.text.specs.Inner.{lineEnd, nextLine}
 use Rattle.text.proofs.LineLaws.{lines-step, lines-end}
 use Rattle.logfile.specs.Limits.{logBytes, logRows}
 use Rattle.logfile.specs.LogFile.{Reading, row, end, fault, readLine, past, rowAfter, logHeader, afterHeader, sizesOk, readRow}

@@ -176,7 +176,6 @@ module _ (text : List ℕ) (r room : ℕ) where
       )
 
   header-told : 1 ≤ r → Answer 1 (readingSays (afterHeader (r - 1) (lines text)))
-  unfolding InOrder
   header-told h = go (lines text) refl
     where
       right : (b : Bool) (l : List ℕ) (ls : List (List ℕ)) → lines text ≡ l ∷ ls → sameBytes l logHeader ≡ b → Answer 1 (readingSays (cond b (rowAfter 2 (r - 1) ls) (fault line-form 1)))
@@ -207,7 +206,7 @@ module _ (text : List ℕ) (r room : ℕ) where
       (lt-or-le logBytes (length text))
 
   file-told : Answer 0 (readingSays (readRow text r room))
-  unfolding readRow InOrder
+  unfolding readRow
   file-told = go (ltb 0 r && sizesOk text room) refl
     where
       go : (b : Bool) → ltb 0 r && sizesOk text room ≡ b → Answer 0 (readingSays (cond b (afterHeader (r - 1) (lines text)) (fault outside-limits 0)))
@@ -217,7 +216,6 @@ module _ (text : List ℕ) (r room : ℕ) where
       go false q = (readingSays end, end-answers, line-stops refusal sentences _ 0 outside-limits (inl (refl, holds-whole (sizes-some q))))
 
   orders : (l : ℕ) → ascends orderOnLine 0 (sentences l) ≡ true
-  unfolding ascends
   orders zero = refl
   orders (suc zero) = refl
   orders (suc (suc i)) = refl

@@ -5,7 +5,8 @@ use mathlib.Core.Bool.{cond}
 use mathlib.Core.List.{List}
 use lib.Dec.{ltb}
 use lib.ListN.{length, drop}
-use Rattle.text.specs.Lines.{lines, lineEnd, nextLine}
+use Rattle.text.specs.Lines.{lines}
+use Rattle.text.specs.Inner.{lineEnd, nextLine}
 use Rattle.net.specs.Refusals.{outside-limits}
 use Rattle.logfile.specs.LogFile.{Reading, row, end, fault, unlessOn, rowAfter, afterHeader, sizesOk, RowRead}
 use Rattle.logfile.specs.declared.Cursor.{Cursor}

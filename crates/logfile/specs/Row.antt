@@ -7,7 +7,7 @@ use lib.Dec.{ltb}
 use lib.ListN.{length, drop}
 use lib.Seq.{slice}
 use Rattle.text.specs.Bytes.{sameBytes}
-use Rattle.text.specs.Lines.{lineEnd, nextLine}
+use Rattle.text.specs.Inner.{lineEnd, nextLine}
 use Rattle.text.specs.Fields.{comma, split}
 use Rattle.text.specs.Decimal.{allNumbers, values}
 use Rattle.text.specs.Members.{highest}

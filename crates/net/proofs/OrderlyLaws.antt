@@ -16,7 +16,8 @@ use Rattle.obligations.specs.Limits.{activities}
 use Rattle.obligations.proofs.BoolLaws.{and-left, and-right, false-not-true}
 use Rattle.net.specs.Limits.{sets, places}
 use Rattle.net.specs.Lists.{listed, zeros, ascendsAbove}
-use Rattle.net.specs.Sides.{Sides, masksOf, lengthsOf, emptyAt, block, setsOn, OnSide}
+use Rattle.net.specs.Sides.{masksOf, lengthsOf, emptyAt, block, setsOn, OnSide}
+use Rattle.net.specs.Inner.{Sides}
 use Rattle.net.specs.Orderly.{blockOk, endsOk, sidesOk, sized, orderly, SideOrderly, Orderly}
 use Rattle.net.specs.declared.Net.{Net}
 use Rattle.net.specs.declared.Side.{Side}

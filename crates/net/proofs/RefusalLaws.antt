@@ -47,7 +47,7 @@ ends-some start end e = go (true-or-false (ltb start activities)) (true-or-false
     go (inl a) (inl b) (inr c) = absurd (false-not-true e (facts-ends start end (ltb-true start activities a) (ltb-true end activities b) (eqb-false start end c)))
 
 pub fresh-listed : (start end : ℕ) → AsListed refused (freshRefusals start end) (freshSays start end)
-unfolding freshSays ascends
+unfolding freshSays
 fresh-listed start end =
     chain-listed (freshRefusals start end) refl 0
     (whole-link refused (accepted 0) bad-ends (BadEnds start end) [] (endsOk start end) (accepted 0) (ends-none start end) (ends-some start end) (λ e. told-end refused (accepted 0)))
@@ -93,7 +93,7 @@ module _ (net : Net) (o : orderly net ≡ true) (side : Side) (a : ℕ) (h : a <
   ]
 
 pub put-listed : (net : Net) (side : Side) (a m : ℕ) → AsListed refused (putRefusals net side a m) (putSays net side a m)
-unfolding putSays sideSays ascends
+unfolding putSays sideSays
 put-listed net side a m =
     let there = listed m (setsOn net side a) in
     let value = accepted (indicator (not there)) in
@@ -109,7 +109,6 @@ put-listed net side a m =
 -- ---- containment
 
 contained-told : (net other : Net) (p q : Bool) (value : Says) → orderly net ≡ p → orderly other ≡ q → Told refused (containedRefusals net other) value (cond p (cond q value (refused disorderly 2)) (refused disorderly 1))
-unfolding InOrder
 contained-told net other true true value e f =
     passed (λ n p. ⊎-elim (λ h. neither (h .1 .others) (h .1 .inside) (h .1 .bad)) (λ h. h))
   where
@@ -126,7 +125,7 @@ contained-told net other false q value e f =
     stopped 2 1 (inl (refl, record { others = 0; inside = omega arith; at-place = refl; bad = orderly-some net e; none-before = λ i l b. omega arith }))
 
 pub contained-listed : (net other : Net) → AsListed refused (containedRefusals net other) (containedSays net other)
-unfolding containedSays ascends
+unfolding containedSays
 contained-listed net other = elim (true-or-false (contained net other)) [
   | inl t ↦ rw t (chain-listed (containedRefusals net other) refl 1 (contained-told net other (orderly net) (orderly other) (accepted 1) refl refl))
   | inr f ↦ rw f (chain-listed (containedRefusals net other) refl 0 (contained-told net other (orderly net) (orderly other) (accepted 0) refl refl))

@@ -51,12 +51,11 @@ allWhole (lowest n Bad ∷ ss) = false
 
 module _ (rank : ℕ → ℕ) where
   -- the numbers' ranks ascend along the list, and the first is above k
-  unfoldable pub ascends : ℕ → List Sentence → Bool
+  abbrev pub ascends : ℕ → List Sentence → Bool
   ascends k [] = true
   ascends k (s ∷ ss) = ltb k (rank (numberOf s)) && ascends (rank (numberOf s)) ss
 
   holds-above : (k : ℕ) (ss : List Sentence) → ascends k ss ≡ true → (n p : ℕ) → Holds ss n p → k < rank n
-  unfolding ascends
   holds-above k [] a n p h = absurd h
   holds-above k (s ∷ ss) a n p (inl h) = rw (← h .0) (ltb-true k (rank (numberOf s)) (and-left (ltb k (rank (numberOf s))) _ a))
   holds-above k (s ∷ ss) a n p (inr h) =
@@ -65,7 +64,6 @@ module _ (rank : ℕ → ℕ) where
 
   -- one number of the list has one place
   holds-unique : (k : ℕ) (ss : List Sentence) → ascends k ss ≡ true → (n m p q : ℕ) → rank n ≡ rank m → Holds ss n p → Holds ss m q → (n ≡ m) × (p ≡ q)
-  unfolding ascends
   holds-unique k [] a n m p q e f g = absurd f
   holds-unique k (s ∷ ss) a n m p q e (inl f) (inl g) = (sym (f .0) ∙ g .0, place-unique s (f .1) (g .1))
   holds-unique k (s ∷ ss) a n m p q e (inl f) (inr g) =
@@ -78,18 +76,16 @@ module _ (rank : ℕ → ℕ) where
 
 -- ---- the first of a list that holds
 
-unfoldable pub InOrder : List Sentence → ℕ → ℕ → Type 0
+abbrev pub InOrder : List Sentence → ℕ → ℕ → Type 0
 InOrder [] n p = ⊥
 InOrder (s ∷ ss) n p = ((numberOf s ≡ n) × HoldsAt s p) ⊎ (((q : ℕ) → HoldsAt s q → ⊥) × InOrder ss n p)
 
 order-holds : (ss : List Sentence) (n p : ℕ) → InOrder ss n p → Holds ss n p
-unfolding InOrder
 order-holds [] n p o = o
 order-holds (s ∷ ss) n p (inl h) = inl h
 order-holds (s ∷ ss) n p (inr o) = inr (order-holds ss n p (o .1))
 
 order-first : (rank : ℕ → ℕ) (k : ℕ) (ss : List Sentence) → ascends rank k ss ≡ true → (n p : ℕ) → InOrder ss n p → (m q : ℕ) → rank m < rank n → Holds ss m q → ⊥
-unfolding ascends InOrder
 order-first rank k [] a n p o m q l h = h
 order-first rank k (s ∷ ss) a n p (inl o) m q l (inl h) = let e : rank m ≡ rank n = ap rank (sym (h .0) ∙ o .0) in omega arith
 order-first rank k (s ∷ ss) a n p (inl o) m q l (inr h) =
@@ -100,7 +96,6 @@ order-first rank k (s ∷ ss) a n p (inr o) m q l (inr h) = order-first rank (ra
 
 -- of sentences about a whole line the one that holds has place 0
 whole-places : (ss : List Sentence) → allWhole ss ≡ true → (n p : ℕ) → InOrder ss n p → p ≡ 0
-unfolding InOrder
 whole-places [] w n p o = absurd o
 whole-places (whole k Bad ∷ ss) w n p o = ⊎-elim (λ h. h .1 .at-none) (λ h. whole-places ss w n p (h .1)) o
 whole-places (first k m Bad ∷ ss) w n p o = absurd (false-not-true refl w)
@@ -118,7 +113,6 @@ module _ {A : Type 0} (refusal : ℕ → ℕ → A) (value : A) where
   told-end = passed (λ n p h. h)
 
   told-more : (s : Sentence) (ss : List Sentence) (rest : A) → ((q : ℕ) → HoldsAt s q → ⊥) → Told refusal ss value rest → Told refusal (s ∷ ss) value rest
-  unfolding InOrder
   told-more s ss rest none (passed f) = passed (λ n p. ⊎-elim (λ h. none p (h .1)) (f n p))
   told-more s ss rest none (stopped n p o) = stopped n p (inr (none, o))
 
@@ -126,7 +120,6 @@ module _ {A : Type 0} (refusal : ℕ → ℕ → A) (value : A) where
   pub told-link : (s : Sentence) (ss : List Sentence) (test : Bool) (place : ℕ) (rest : A)
       → (test ≡ true → (q : ℕ) → HoldsAt s q → ⊥) → (test ≡ false → HoldsAt s place) → (test ≡ true → Told refusal ss value rest)
       → Told refusal (s ∷ ss) value (cond test rest (refusal (numberOf s) place))
-  unfolding InOrder
   told-link s ss true place rest none some next = told-more s ss rest (none refl) (next refl)
   told-link s ss false place rest none some next = stopped (numberOf s) place (inl (refl, some refl))
 
@@ -140,7 +133,6 @@ module _ {A : Type 0} (refusal : ℕ → ℕ → A) (value : A) where
   pub first-link : (n k : ℕ) (Bad : ℕ → Type 0) (ss : List Sentence) (place : ℕ) (rest : A)
       → (place ≡ 0 → (i : ℕ) → i < k → Bad i → ⊥) → ((i : ℕ) → place ≡ suc i → First k Bad (suc i)) → (place ≡ 0 → Told refusal ss value rest)
       → Told refusal (first n k Bad ∷ ss) value (cond (eqb place 0) rest (refusal n place))
-  unfolding InOrder
   first-link n k Bad ss zero rest none some next =
       told-link (first n k Bad) ss true zero rest (λ e q h. none refl (h .others) (h .inside) (h .bad)) (λ e. absurd (false-true e)) (λ e. next refl)
     where

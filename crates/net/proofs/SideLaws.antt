@@ -13,7 +13,8 @@ use Rattle.obligations.specs.Limits.{activities, masks}
 use Rattle.obligations.proofs.BoolLaws.{and-left, and-right}
 use Rattle.net.specs.Limits.{sets, places}
 use Rattle.net.specs.Lists.{listed, ascendsAbove, zeros}
-use Rattle.net.specs.Sides.{masksOf, lengthsOf, Sides, block, sideIn, OnSide, Masks}
+use Rattle.net.specs.Sides.{masksOf, lengthsOf, block, sideIn, OnSide, Masks}
+use Rattle.net.specs.Inner.{Sides}
 use Rattle.net.specs.Orderly.{blockOk, sidesOk}
 use Rattle.net.specs.declared.Net.{Net}
 use Rattle.net.specs.declared.Side.{Side}

@@ -32,12 +32,6 @@ abbrev pub netOf : ℕ → ℕ → List ℕ → List ℕ → List ℕ → List �
 netOf start end inputs «input_len» outputs «output_len» =
     record { start = start; end = end; inputs = inputs; outputs = outputs; «input_len» = «input_len»; «output_len» = «output_len» }
 
--- arrays as long as the record's, with at most 16 sets on each side
-pub record Sides (masks lengths : List ℕ) : Type 0 where
-  pub masks-long : length masks ≡ places
-  pub lengths-long : length lengths ≡ activities
-  pub at-most : (a : ℕ) → a < activities → getD lengths a 0 ≤ sets
-
 -- the 16 places of activity a, and the first n of them
 abbrev pub block : List ℕ → ℕ → List ℕ
 block masks a = take sets (drop (sets * a) masks)

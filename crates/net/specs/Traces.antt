@@ -12,7 +12,7 @@ abbrev pub activityIn : List ℕ → ℕ → ℕ
 activityIn trace i = getD trace i 0
 
 -- 3: a trace has at most 64 positions
-unfoldable pub traceWithin : List ℕ → Bool
+abbrev pub traceWithin : List ℕ → Bool
 traceWithin trace = leb (length trace) positions
 
 -- 4: the first position with a number above 31, or 0

@@ -9,7 +9,7 @@ use crate::refusal;
 use obligations::ACTIVITIES;
 ghost use mathlib.Core.Path.{_≡_};
 ghost use mathlib.Core.Bool.{true};
-ghost use Rattle.net.specs.Sides.{Sides};
+ghost use Rattle.net.specs.Inner.{Sides};
 ghost use Rattle.net.specs.Orderly.{orderly};
 ghost use Rattle.net.specs.Contained.{sidesWithin, contained, containedMeans, containedSays};
 

@@ -11,7 +11,8 @@ use lib.ListN.{length, drop}
 use lib.Seq.{slice, slice-empty}
 use Rattle.obligations.proofs.SetLaws.{lt-or-le}
 use Rattle.text.specs.Bytes.{sameBytes}
-use Rattle.text.specs.Lines.{lines, lineEnd, nextLine}
+use Rattle.text.specs.Lines.{lines}
+use Rattle.text.specs.Inner.{lineEnd, nextLine}
 use Rattle.text.proofs.LineLaws.{lines-step, lines-end, line-none}
 use Rattle.net.specs.Refusals.{outside-limits, line-form}
 use Rattle.net.specs.Orderly.{endsOk}

@@ -178,7 +178,6 @@ module _ (text : List ℕ) where
       → ((net′ : Net) → SoFar (suc (suc (suc (suc j)))) net′ → Told (suc (suc (suc (suc (suc j))))) (readRows (suc (suc (suc (suc j))) + 1) net′ ls .says))
       → Told (suc (suc (suc (suc j))))
       (cond (rowSays net row .ok) (readRows (suc (suc (suc (suc j))) + 1) (rowGives net row) ls) (refusedAt (rowSays net row .refusal) (suc (suc (suc (suc j))))) .says)
-  unfolding InOrder
   row-told j net ls s has (row-form w) next = stops (suc (suc (suc (suc j)))) line-form (inl (refl, holds-whole (has, w)))
   row-told j net ls s has (row-number f w) next = stops (suc (suc (suc (suc j)))) number-form (inr (not-whole (λ b. f (b .1)), inl (refl, holds-whole (has, w))))
   row-told j net ls s has (set-row side a m f g i) next = put (put-said net side a m (s .is-orderly) (i .is-activity) (i .not-empty))
@@ -234,7 +233,6 @@ module _ (text : List ℕ) where
       }
 
   third-told : (start : ℕ) (ls : List (List ℕ)) → IsEnd startWord start (lineAt text 2) → HasLine text 3 → drop 3 (lines text) ≡ ls → {row : EndLine} → EndSaid endWord (lineAt text 3) row → Told 3 (afterEnd start row ls .says)
-  unfolding InOrder
   third-told start ls s has e (end-form w) = stops 3 line-form (inl (refl, holds-whole (inr w)))
   third-told start ls s has e (end-number f w) = stops 3 number-form (inr (not-whole (⊎-elim (λ m. m has) f), inl (refl, holds-whole w)))
   third-told start ls s has e (end-row end f g i) = go (eqb start end) refl
@@ -253,7 +251,7 @@ module _ (text : List ℕ) where
           (rows-told 0 (freshNet start end) ls e (fresh-so-far start end s i d))
 
   from-third : (start : ℕ) (ls : List (List ℕ)) → IsEnd startWord start (lineAt text 2) → drop 2 (lines text) ≡ ls → Told 3 (fromEnd start ls .says)
-  unfolding fromEnd InOrder
+  unfolding fromEnd
   from-third start [] s e = stops 3 line-form (inl (refl, holds-whole (inl (none-next text 2 3 e (omega arith)))))
   from-third start (l ∷ ls) s e =
       let w = line-next text 2 l ls e in
@@ -261,14 +259,13 @@ module _ (text : List ℕ) where
       third-told start ls s (w .0) (w .2) r
 
   second-told : (ls : List (List ℕ)) → HasLine text 2 → drop 2 (lines text) ≡ ls → {row : EndLine} → EndSaid startWord (lineAt text 2) row → Told 2 (afterStart row ls .says)
-  unfolding InOrder
   second-told ls has e (end-form w) = stops 2 line-form (inl (refl, holds-whole (inr w)))
   second-told ls has e (end-number f w) = stops 2 number-form (inr (not-whole (⊎-elim (λ m. m has) f), inl (refl, holds-whole w)))
   second-told ls has e (end-row start f g i) =
       passes 2 _ (λ n p. ⊎-elim (λ w. ⊎-elim (λ m. m has) f (w .1 .bad)) (⊎-elim (λ w. g (w .1 .bad)) (λ w. w))) (from-third start ls i e)
 
   from-second : (ls : List (List ℕ)) → drop 1 (lines text) ≡ ls → Told 2 (fromStart ls .says)
-  unfolding fromStart InOrder
+  unfolding fromStart
   from-second [] e = stops 2 line-form (inl (refl, holds-whole (inl (none-next text 1 2 e (omega arith)))))
   from-second (l ∷ ls) e =
       let w = line-next text 1 l ls e in
@@ -276,7 +273,7 @@ module _ (text : List ℕ) where
       second-told ls (w .0) (w .2) r
 
   from-first : (ls : List (List ℕ)) → lines text ≡ ls → Told 1 (fromHeader ls .says)
-  unfolding fromHeader InOrder
+  unfolding fromHeader
   from-first [] e = stops 1 line-form (inl (refl, holds-whole (inl (none-next text 0 1 e (omega arith)))))
   from-first (l ∷ ls) e = go (sameBytes l netHeader) refl
     where
@@ -291,7 +288,7 @@ module _ (text : List ℕ) where
       go false q = stops 1 line-form (inl (refl, holds-whole (inr (λ h. false-not-true q (same-exactly l netHeader .1 (sym (w .1) ∙ h))))))
 
   pub net-told : ToldFrom refused (netRefusals text) (accepted 0) 0 (readNet text .says)
-  unfolding readNet InOrder
+  unfolding readNet
   net-told = go (leb (length text) netBytes) refl
     where
       go : (t : Bool) → leb (length text) netBytes ≡ t → Told 0 (cond t (fromHeader (lines text)) (refusedAt outside-limits 0) .says)
@@ -302,7 +299,6 @@ module _ (text : List ℕ) where
       go false q = stops 0 outside-limits (inl (refl, holds-whole (leb-false (length text) netBytes q)))
 
   ascending : (line : ℕ) → ascends orderOnLine 0 (netRefusals text line) ≡ true
-  unfolding ascends
   ascending zero = refl
   ascending (suc zero) = refl
   ascending (suc (suc zero)) = refl

@@ -154,7 +154,7 @@ pub written-read : WrittenRead
 written-read net buf n w e = let f = written-front net buf n e in ap readNet (f .1) ∙ sets-back net (f .0) (set-is-mask net w)
 
 pub write-listed : WriteListed
-unfolding writeSays ascends
+unfolding writeSays
 write-listed net room =
     chain-listed (writeRefusals net room) refl (length (netText net))
     (orderly-link refused (accepted (length (netText net))) _ _ net

@@ -19,7 +19,7 @@ ghost use mathlib.Core.List.{_++_, _∷_, []};
 ghost use Prim.Native.Nat.{_+_, _≤_, _<_};
 ghost use lib.ListN.{length, getD};
 ghost use Rattle.obligations.specs.Limits.{activities};
-ghost use Rattle.text.specs.Bytes.{Wrote};
+ghost use Rattle.text.specs.Inner.{Wrote};
 ghost use Rattle.text.specs.Fields.{comma};
 ghost use Rattle.text.specs.Lines.{unlines};
 ghost use Rattle.net.specs.Limits.{sets, places};

@@ -39,7 +39,7 @@ use Rattle.promises.specs.Marked.{Marked}
 
 -- the marked examples
 pub marked : Marked
-unfolding freshGives judgeSays judgePositions onWalks runSays firstMissing onSideAt learnSays learnGives withinLimits wordsWithin bindings firstNoActivity firstFailing firstFrom learnPositions shaped endsAgree firstWronglyEmpty emptyAgree firstImpossible possibleAt possible run after taken added inputs outputs places members membersFrom keep allDue lowered raised allZero fits takesBinding takesPut withBinding withPut gained sideSays misplaced listed insert grows putMasks putLengths total freshNet orderly sized endsOk sidesOk blockOk allBelow ascendsAbove zeros trialsOf later orElse behind trialIf trial tryOutputs tryInputs atEnd searchFrom searchOf endSays replayed within checkedSays hasRoom replayTests replaySays checkSays lowestMember lost outside successors predecessors inNet onSides reach rounds grownBy unionFrom rows rowsFrom arcs arc names named those thoseBelow withIf sumBelow number anyBelow union single member bit F fig4 answers
+unfolding freshGives judgeSays judgePositions runSays firstMissing onSideAt learnSays learnGives withinLimits wordsWithin bindings firstNoActivity firstFailing firstFrom learnPositions shaped endsAgree firstWronglyEmpty emptyAgree firstImpossible possibleAt possible run after taken added inputs outputs places members membersFrom keep allDue lowered raised allZero fits takesBinding takesPut withBinding withPut gained sideSays misplaced listed insert grows putMasks putLengths total freshNet orderly sized endsOk sidesOk blockOk allBelow ascendsAbove zeros trialsOf later orElse behind trialIf trial tryOutputs tryInputs atEnd searchFrom searchOf endSays replayed within checkedSays hasRoom replayTests replaySays checkSays lowestMember lost outside successors predecessors inNet onSides reach rounds grownBy unionFrom rows rowsFrom arcs arc names named those thoseBelow withIf sumBelow number anyBelow union single member bit F fig4 answers
 marked = (refl, refl, refl, refl, refl, refl, refl, refl, refl, refl, refl, refl, refl)
 
 -- F is what three sequences give
@@ -47,7 +47,7 @@ F-grown :
     grown (freshNet 0 3)
     (learn (0 ∷ 0 ∷ 2 ∷ 1 ∷ 1 ∷ 8 ∷ 3 ∷ 2 ∷ 0 ∷ []) ∷ follow (0 ∷ 2 ∷ 3 ∷ []) ∷ learn (0 ∷ 0 ∷ 6 ∷ 1 ∷ 1 ∷ 8 ∷ 2 ∷ 1 ∷ 8 ∷ 3 ∷ 6 ∷ 0 ∷ []) ∷ [])
     ≡ F
-unfolding learnSays learnGives withinLimits wordsWithin bindings firstNoActivity firstFailing firstFrom learnPositions shaped endsAgree firstWronglyEmpty emptyAgree firstImpossible possibleAt possible run after taken added inputs outputs places members membersFrom keep allDue lowered raised allZero fits takesBinding takesPut withBinding withPut gained sideSays misplaced listed insert grows putMasks putLengths total freshNet orderly sized endsOk sidesOk blockOk allBelow ascendsAbove zeros followSays followGives traceWithinLimits traceWithin followPositions followedFrom single F grown
+unfolding learnSays learnGives withinLimits wordsWithin bindings firstNoActivity firstFailing firstFrom learnPositions shaped endsAgree firstWronglyEmpty emptyAgree firstImpossible possibleAt possible run after taken added inputs outputs places members membersFrom keep allDue lowered raised allZero fits takesBinding takesPut withBinding withPut gained sideSays misplaced listed insert grows putMasks putLengths total freshNet orderly sized endsOk sidesOk blockOk allBelow ascendsAbove zeros followSays followGives traceWithinLimits followPositions followedFrom single F grown
 F-grown = refl
 
 -- ---- passing nets that contain the grown net and that don't
@@ -70,7 +70,7 @@ nets :
     × (map checkSays (net ∷ larger ∷ other ∷ []) ≡ map checkMeans (Passed 7 ∷ Passed 8 ∷ Passed 1 ∷ []))
     × (containedSays net larger ≡ containedMeans Yes)
     × (containedSays net other ≡ containedMeans No)
-unfolding learnSays learnGives withinLimits wordsWithin bindings firstNoActivity firstFailing firstFrom learnPositions shaped endsAgree firstWronglyEmpty emptyAgree firstImpossible possibleAt possible run after taken added inputs outputs places members membersFrom keep allDue lowered raised allZero fits takesBinding takesPut withBinding withPut gained sideSays misplaced listed insert grows putMasks putLengths total freshNet orderly sized endsOk sidesOk blockOk allBelow ascendsAbove zeros followSays followGives traceWithinLimits traceWithin followPositions followedFrom single checkSays onWalks lowestMember lost outside successors predecessors inNet onSides reach rounds grownBy unionFrom rows rowsFrom arcs arc names named those thoseBelow withIf sumBelow number anyBelow union member bit containedSays contained sidesWithin allListed calls more others fig4 grown answers
+unfolding learnSays learnGives withinLimits wordsWithin bindings firstNoActivity firstFailing firstFrom learnPositions shaped endsAgree firstWronglyEmpty emptyAgree firstImpossible possibleAt possible run after taken added inputs outputs places members membersFrom keep allDue lowered raised allZero fits takesBinding takesPut withBinding withPut gained sideSays misplaced listed insert grows putMasks putLengths total freshNet orderly sized endsOk sidesOk blockOk allBelow ascendsAbove zeros followSays followGives traceWithinLimits followPositions followedFrom single checkSays lowestMember lost outside successors predecessors inNet onSides reach rounds grownBy unionFrom rows rowsFrom arcs arc names named those thoseBelow withIf sumBelow number anyBelow union member bit containedSays contained sidesWithin allListed calls more others fig4 grown answers
 nets = (refl, refl, refl, refl)
 
 -- ---- a list in which a side is full
@@ -97,5 +97,5 @@ busy =
 full :
     (answers (freshNet 0 31) busy ≡ map learnMeans (replicate 16 (Learned 4) ++ (Refused 12 0 ∷ Refused 3 0 ∷ Refused 3 0 ∷ Refused 4 2 ∷ Refused 9 1 ∷ Refused 11 0 ∷ Learned 0 ∷ [])))
     × (setsOn (grown (freshNet 0 31) busy) Output 0 ≡ 2 ∷ 4 ∷ 8 ∷ 16 ∷ 32 ∷ 64 ∷ 128 ∷ 256 ∷ 512 ∷ 1024 ∷ 2048 ∷ 4096 ∷ 8192 ∷ 16384 ∷ 32768 ∷ 65536 ∷ [])
-unfolding learnSays learnGives withinLimits wordsWithin bindings firstNoActivity firstFailing firstFrom learnPositions shaped endsAgree firstWronglyEmpty emptyAgree firstImpossible possibleAt possible run after taken added inputs outputs places members membersFrom keep allDue lowered raised allZero fits takesBinding takesPut withBinding withPut gained sideSays misplaced listed insert grows putMasks putLengths total freshNet orderly sized endsOk sidesOk blockOk allBelow ascendsAbove zeros followSays followGives traceWithinLimits traceWithin followPositions followedFrom single through busy grown answers
+unfolding learnSays learnGives withinLimits wordsWithin bindings firstNoActivity firstFailing firstFrom learnPositions shaped endsAgree firstWronglyEmpty emptyAgree firstImpossible possibleAt possible run after taken added inputs outputs places members membersFrom keep allDue lowered raised allZero fits takesBinding takesPut withBinding withPut gained sideSays misplaced listed insert grows putMasks putLengths total freshNet orderly sized endsOk sidesOk blockOk allBelow ascendsAbove zeros followSays followGives traceWithinLimits followPositions followedFrom single through busy grown answers
 full = (refl, refl)

@@ -10,7 +10,7 @@ use denote.Enum.Declared.{tagOf}
 use types.Run.{OneOf}
 use lib.Dec.{leb}
 use lib.ListN.{length, length-append}
-use Rattle.text.specs.Bytes.{Wrote}
+use Rattle.text.specs.Inner.{Wrote}
 use Rattle.text.specs.Lines.{unlines}
 use Rattle.net.specs.Refusals.{refused, outside-limits}
 use Rattle.net.specs.declared.Net.{Net}

@@ -20,7 +20,7 @@ ghost use mathlib.Core.Path.{_≡_};
 ghost use mathlib.Core.Bool.{true};
 ghost use Prim.Native.Nat.{_+_, _≤_};
 ghost use lib.ListN.{length};
-ghost use Rattle.text.specs.Bytes.{Wrote};
+ghost use Rattle.text.specs.Inner.{Wrote};
 ghost use Rattle.net.specs.Orderly.{orderly};
 ghost use Rattle.logfile.specs.Limits.{logRows};
 ghost use Rattle.logfile.specs.LogFile.{rowMeans};

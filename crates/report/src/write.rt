@@ -7,7 +7,7 @@ use text::decimal::write_number;
 ghost use mathlib.Core.List.{_∷_, [], _++_};
 ghost use Prim.Native.Nat.{_+_, _≤_};
 ghost use lib.ListN.{length};
-ghost use Rattle.text.specs.Bytes.{Wrote};
+ghost use Rattle.text.specs.Inner.{Wrote};
 ghost use Rattle.text.specs.Decimal.{printNumber};
 ghost use Rattle.text.specs.Lines.{cr, lf};
 ghost use Rattle.search.specs.Replay.{replayMeans};

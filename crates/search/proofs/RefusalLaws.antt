@@ -45,7 +45,7 @@ within-unrefused budget r n p e = go (leb (trialsOf r) budget) r e
 
 module _ (net : Net) (trace : List ℕ) (room : ℕ) where
   tests-told : Told refused (replayRefusals net trace room) (accepted 0) (replayTests net trace room)
-  unfolding replayTests onWalks
+  unfolding replayTests
   tests-told =
       orderly-link refused (accepted 0) _ _ net
       (λ o. whole-link refused (accepted 0) outside-limits (OutsideLimits trace room) _ (hasRoom (length trace) room) _ (room-none trace room) (room-some trace room)
@@ -53,11 +53,10 @@ module _ (net : Net) (trace : List ℕ) (room : ℕ) where
       (λ a. walks-link net o refused (accepted 0) [] _ (λ e. told-end refused (accepted 0)))))
 
   pub tests-listed : AsListed refused (replayRefusals net trace room) (replayTests net trace room)
-  unfolding ascends
   tests-listed = chain-listed (replayRefusals net trace room) refl 0 tests-told
 
   pub replay-listed : (budget : ℕ) → AsListed says-refused (replayRefusals net trace room) (replaySays net trace budget room)
-  unfolding ascends replaySays checkedSays
+  unfolding replaySays checkedSays
   replay-listed budget =
       told-listed says-refused refusals-same (checkedSays net trace budget) (within-unrefused budget (replayed net trace)) (replayRefusals net trace room) refl
       (told-map refused says-refused (λ (s : Says). cond (s .ok) (checkedSays net trace budget) (says-refused (s .refusal) (s .place))) (λ n p. refl) (replayRefusals net trace room) (accepted 0) (replayTests net trace room) tests-told)

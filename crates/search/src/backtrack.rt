@@ -11,7 +11,7 @@ ghost use lib.ListN.{length, getD, set};
 ghost use Rattle.obligations.specs.Limits.{activities, pairs, positions};
 ghost use Rattle.obligations.specs.State.{allZero, State};
 ghost use Rattle.net.specs.Limits.{sets, places};
-ghost use Rattle.net.specs.Sides.{Sides};
+ghost use Rattle.net.specs.Inner.{Sides};
 ghost use Rattle.search.specs.Search.{later, atEnd};
 ghost use Rattle.search.specs.Trace.{TraceWithRoom};
 ghost use Rattle.search.specs.Replay.{endSays};

@@ -104,7 +104,7 @@ same-activities t =
     ∙ no-activity-ext (length t) (λ i. at (followed t) i .activity) (λ i. getD t i 0) (followed-activity 0 t)
 
 same-limits : (t : List ℕ) → wordsWithin (words (followed t)) ≡ traceWithin t
-unfolding wordsWithin traceWithin
+unfolding wordsWithin
 same-limits t =
     let l : length (words (followed t)) ≡ 3 * length t = length-words (followed t) ∙ ap (λ (k : ℕ). 3 * k) (length-followed 0 t) in
     rw (l, eq-eqb (3 * length t % 3) 0 (omega arith))

@@ -7,7 +7,8 @@ use native.Mathlib.Omega.{arith}
 use borrow.Author.Tests.{ne-eqb, eqb-true}
 use lib.ListN.{length, getD, drop}
 use Rattle.net.specs.Lists.{listed}
-use Rattle.net.specs.Sides.{Sides, sideIn}
+use Rattle.net.specs.Sides.{sideIn}
+use Rattle.net.specs.Inner.{Sides}
 use Rattle.net.proofs.SideLaws.{length-side, side-at}
 use Rattle.net.proofs.ListLaws.{listed-here, listed-next, listed-end}
 use Rattle.obligations.specs.State.{nothing, total, State}
@@ -108,21 +109,21 @@ module _ (s : List Binding) (h : Activities s) where
 
 module _ (net : Net) (s : List Binding) where
   pub refused-lost : (lost net ≡ 0 → ⊥) → PositionsJudged net s (Refused 6 (lowestMember (lost net)))
-  unfolding judgePositions onWalks
+  unfolding judgePositions
   refused-lost ne = record { says = rw (ne-eqb (lost net) 0 ne); peak-of = refused-peak s 6 (lowestMember (lost net)) }
 
   module _ (w : lost net ≡ 0) where
     pub judged-ends : shaped (net .start) (net .end) (length s) (λ i. at s i .activity) ≡ false → PositionsJudged net s (Refused 7 0)
-    unfolding judgePositions onWalks
+    unfolding judgePositions
     judged-ends f = record { says = rw (w, f); peak-of = refused-peak s 7 0 }
 
     module _ (h : shaped (net .start) (net .end) (length s) (λ i. at s i .activity) ≡ true) where
       pub judged-missing : (place : ℕ) → place ≡ firstMissing net s → (place ≡ 0 → ⊥) → PositionsJudged net s (Refused 8 place)
-      unfolding judgePositions onWalks
+      unfolding judgePositions
       judged-missing place e ne = record { says = rw (w, h, ← e, ne-eqb place 0 ne); peak-of = refused-peak s 8 place }
 
       pub judged-run : firstMissing net s ≡ 0 → {r : JudgeAnswer} → RunJudged s r → PositionsJudged net s r
-      unfolding judgePositions onWalks
+      unfolding judgePositions
       judged-run e j = record { says = rw (w, h, e) (j .says); peak-of = j .peak-of }
 
 module _ (net : Net) (ws : List ℕ) where

@@ -109,7 +109,6 @@ learn-told net ws =
     (λ f. told-end refused value))))))))
 
 pub learn-listed : (net : Net) (ws : List ℕ) → AsListed refused (learnRefusals net ws) (learnSays net ws)
-unfolding ascends
 learn-listed net ws = chain-listed (learnRefusals net ws) refl (newSets net (bindings ws)) (learn-told net ws)
 
 -- ---- follow
@@ -131,7 +130,6 @@ module _ (net : Net) (trace : List ℕ) where
       (followed-empty-where trace (activities-below (length trace) (activityIn trace) a))
 
   trace-link : (value : Says) (ss : List Sentence) (rest : Says) → (traceWithin trace ≡ true → Told refused ss value rest) → Told refused (longTrace trace ∷ ss) value (unless (traceWithin trace) outside-limits rest)
-  unfolding traceWithin
   trace-link value ss rest next =
       whole-link refused value outside-limits _ ss (traceWithin trace) rest (λ e l. let m = leb-true (length trace) positions e in omega arith) (λ e. leb-false (length trace) positions e) next
 
@@ -148,13 +146,12 @@ module _ (net : Net) (trace : List ℕ) where
       (λ f. told-end refused value)))))
 
   pub follow-listed : AsListed refused (followRefusals net trace) (followSays net trace)
-  unfolding ascends
   follow-listed = chain-listed (followRefusals net trace) refl (newSets net (followed trace)) follow-told
 
 -- ---- judge
 
 pub judge-told : (net : Net) (ws : List ℕ) → Told refused (judgeRefusals net ws) (accepted 0) (judgeSays net ws)
-unfolding judgeSays withinLimits judgePositions onWalks runSays
+unfolding judgeSays withinLimits judgePositions runSays
 judge-told net ws =
     let s = bindings ws in
     let value = accepted 0 in
@@ -169,5 +166,4 @@ judge-told net ws =
     (λ z. told-end refused value))))))))
 
 pub judge-listed : (net : Net) (ws : List ℕ) → AsListed refused (judgeRefusals net ws) (judgeSays net ws)
-unfolding ascends
 judge-listed net ws = chain-listed (judgeRefusals net ws) refl 0 (judge-told net ws)

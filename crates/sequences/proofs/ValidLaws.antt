@@ -98,7 +98,7 @@ module _ (net : Net) (ws : List ℕ) where
       }
 
   pub judgeable-accepted : Judgeable net ws → judgeSays net ws .ok ≡ true
-  unfolding judgeSays withinLimits judgePositions onWalks runSays
+  unfolding judgeSays withinLimits judgePositions runSays
   judgeable-accepted l =
       let s = bindings ws in
       let f = l .valid .well-formed in

@@ -11,7 +11,8 @@ use lib.Dec.{eqb, leb}
 use lib.ListN.{length, getD, take, drop, length-drop, drop-of-length-le}
 use lib.Seq.{slice, drop-drop, drop-cons}
 use Rattle.text.specs.Bytes.{count}
-use Rattle.text.specs.Lines.{cr, lf, startsCrLf, lines, unlines, lineLength, lineEnd, nextLine, HasLine, lineAt}
+use Rattle.text.specs.Lines.{cr, lf, startsCrLf, lines, unlines, HasLine, lineAt}
+use Rattle.text.specs.Inner.{lineLength, lineEnd, nextLine}
 use Rattle.text.proofs.ByteLaws.{drop-step, take-drop, count-none-head, count-none-tail}
 
 -- ---- CR LF

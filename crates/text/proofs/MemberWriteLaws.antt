@@ -10,7 +10,7 @@ use lib.ListN.{length, length-append}
 use lib.Seq.{sets, length-sets}
 use Rattle.obligations.specs.Sets.{members}
 use Rattle.obligations.proofs.MemberLaws.{members-walk, members-none}
-use Rattle.text.specs.Bytes.{Wrote}
+use Rattle.text.specs.Inner.{Wrote}
 use Rattle.text.specs.Fields.{space, led}
 use Rattle.text.specs.Decimal.{printNumber}
 use Rattle.text.specs.Members.{printMembers}

@@ -6,7 +6,7 @@ use mathlib.Core.List.{List, [], _++_}
 use native.Mathlib.Omega.{arith}
 use lib.ListN.{length, length-append}
 use lib.Seq.{sets, length-sets}
-use Rattle.text.specs.Bytes.{Wrote}
+use Rattle.text.specs.Inner.{Wrote}
 use Rattle.text.proofs.WriteLaws.{sets-append}
 
 -- of a text that was to be stored from p₀ on, the rest is to be stored from p on

@@ -7,7 +7,7 @@ use native.Mathlib.Nat.{suc-add, add-suc, add-zero}
 use native.Mathlib.Omega.{arith}
 use lib.ListN.{length, set, getD, drop, length-append}
 use lib.Seq.{sets, set-comm}
-use Rattle.text.specs.Bytes.{Wrote}
+use Rattle.text.specs.Inner.{Wrote}
 use Rattle.text.specs.Decimal.{digit}
 use Rattle.text.proofs.ByteLaws.{drop-step}
 use Rattle.text.proofs.DigitLaws.{lastDigits, length-last}

@@ -1,11 +1,10 @@
 -- Lines (01, "The tables"): a line is all bytes up to the next CR LF or the text's end, and no line follows a CR LF that
 -- ends the text. A CR or an LF alone is a byte like any other.
-use Prim.Native.Nat.{ℕ, suc, _+_, _-_, _≤_, min}
-use mathlib.Core.Path.{_≡_}
+use Prim.Native.Nat.{ℕ, _-_, _≤_}
 use mathlib.Core.Bool.{Bool, false, _&&_, cond}
 use mathlib.Core.List.{List, [], _∷_, _++_}
 use lib.Dec.{eqb}
-use lib.ListN.{length, getD, drop}
+use lib.ListN.{length, getD}
 use Rattle.text.specs.Fields.{onto}
 
 abbrev pub cr : ℕ
@@ -37,21 +36,3 @@ lineAt text n = getD (lines text) (n - 1) []
 abbrev pub unlines : List (List ℕ) → List ℕ
 unlines [] = []
 unlines (l ∷ ls) = l ++ (cr ∷ lf ∷ unlines ls)
-
--- how many bytes stand before the first CR LF, or before the end
-abbrev pub lineLength : List ℕ → ℕ
-lineLength [] = 0
-lineLength (a ∷ s) = cond (startsCrLf (a ∷ s)) 0 (suc (lineLength s))
-
--- where the line that starts at i ends, and where the line after one that ends at e starts
-abbrev pub lineEnd : List ℕ → ℕ → ℕ
-lineEnd s i = i + lineLength (drop i s)
-
-abbrev pub nextLine : List ℕ → ℕ → ℕ
-nextLine s e = min (e + 2) (length s)
-
--- r is the end of the line that starts at i
-pub record LineEnd (s : List ℕ) (i r : ℕ) : Type 0 where
-  pub low : i ≤ r
-  pub high : r ≤ length s
-  pub exact : r ≡ lineEnd s i

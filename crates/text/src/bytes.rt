@@ -4,7 +4,8 @@ ghost use mathlib.Core.Path.{_≡_};
 ghost use Prim.Native.Nat.{_+_, _≤_};
 ghost use lib.ListN.{length};
 ghost use lib.Seq.{slice};
-ghost use Rattle.text.specs.Bytes.{FoundAt, count, sameBytes, Wrote};
+ghost use Rattle.text.specs.Bytes.{count, sameBytes};
+ghost use Rattle.text.specs.Inner.{FoundAt, Wrote};
 
 // Where the first c stands in s[i..e], or e.
 pub fn find_byte(s: &[u8], i: usize, e: usize, c: u8) -> usize

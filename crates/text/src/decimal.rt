@@ -4,7 +4,7 @@ ghost use mathlib.Core.Path.{_≡_};
 ghost use Prim.Native.Nat.{_+_, _≤_};
 ghost use lib.ListN.{length};
 ghost use lib.Seq.{slice};
-ghost use Rattle.text.specs.Bytes.{Wrote};
+ghost use Rattle.text.specs.Inner.{Wrote};
 ghost use Rattle.text.specs.Decimal.{parseNumber, printNumber};
 
 // Refused: not a number, or above the limit.

@@ -3,7 +3,8 @@
 ghost use mathlib.Core.Path.{_≡_};
 ghost use Prim.Native.Nat.{_≤_};
 ghost use lib.ListN.{length, drop};
-ghost use Rattle.text.specs.Lines.{startsCrLf, LineEnd, nextLine};
+ghost use Rattle.text.specs.Lines.{startsCrLf};
+ghost use Rattle.text.specs.Inner.{LineEnd, nextLine};
 
 // The end of the line that starts at i: where the first CR LF from i on stands, or the text's end.
 pub fn line_end(s: &[u8], i: usize) -> usize

@@ -5,7 +5,7 @@ ghost use Prim.Native.Nat.{_+_, _≤_, _<_};
 ghost use mathlib.Core.List.{_∷_};
 ghost use lib.ListN.{length};
 ghost use lib.Seq.{slice};
-ghost use Rattle.text.specs.Bytes.{Wrote};
+ghost use Rattle.text.specs.Inner.{Wrote};
 ghost use Rattle.text.specs.Fields.{space};
 ghost use Rattle.text.specs.Decimal.{printNumber};
 ghost use Rattle.text.specs.Members.{parseMembers, printMembers};

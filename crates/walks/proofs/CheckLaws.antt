@@ -70,7 +70,7 @@ module _ (net : Net) (o : orderly net ≡ true) where
   -- ---- what is said of an orderly net
 
   pub says-none-lost : lost net ≡ 0 → checkSays net ≡ accepted (arcs net)
-  unfolding checkSays onWalks
+  unfolding checkSays
   says-none-lost e = rw (o, eq-eqb (lost net) 0 e)
 
   pub none-lost-passes : lost net ≡ 0 → Passes net
@@ -97,7 +97,6 @@ module _ (net : Net) (o : orderly net ≡ true) where
 
 -- a link of which the test is refusal 6 passes exactly if no activity is lost
 pub walks-pass : (net : Net) (rest : Says) → (onWalks net rest .ok ≡ true) ↔ ((lost net ≡ 0) × (rest .ok ≡ true))
-unfolding onWalks
 walks-pass net rest =
     let u = unless-at-passes (eqb (lost net) 0) on-no-walk (lowestMember (lost net)) rest in
     ((λ e. (eqb-true (lost net) 0 (u .0 e .0), u .0 e .1)), (λ w. u .1 (eq-eqb (lost net) 0 (w .0), w .1)))
@@ -105,12 +104,11 @@ walks-pass net rest =
 -- ---- the call
 
 pub check-told : (net : Net) → Told refused (checkRefusals net) (accepted (arcs net)) (checkSays net)
-unfolding checkSays onWalks
+unfolding checkSays
 check-told net =
     orderly-link refused (accepted (arcs net)) _ _ net (λ o. walks-link net o refused (accepted (arcs net)) [] _ (λ e. told-end refused (accepted (arcs net))))
 
 pub check-listed : (net : Net) → AsListed refused (checkRefusals net) (checkSays net)
-unfolding ascends
 check-listed net = chain-listed (checkRefusals net) refl (arcs net) (check-told net)
 
 -- a net of which the check says no refusal passes

@@ -69,7 +69,7 @@ unfoldable pub lowestMember : ℕ → ℕ
 lowestMember m = getD (members m) 0 0
 
 -- the rest of a chain if every activity of the net is on a walk, else refusal 6 with the lowest that isn't
-unfoldable pub onWalks : Net → Says → Says
+abbrev pub onWalks : Net → Says → Says
 onWalks net rest = unlessAt (eqb (lost net) 0) on-no-walk (lowestMember (lost net)) rest
 
 unfoldable pub checkSays : Net → Says

@@ -9,7 +9,7 @@ ghost use lib.ListN.{length};
 ghost use lib.Count.{trailingZeros};
 ghost use Rattle.obligations.specs.Limits.{activities};
 ghost use Rattle.obligations.specs.Sets.{single, minus};
-ghost use Rattle.net.specs.Sides.{Sides};
+ghost use Rattle.net.specs.Inner.{Sides};
 ghost use Rattle.walks.specs.Links.{unionOf, namedRows, linked, links, filled, sizes};
 
 // The members of all the sets.

@@ -26,7 +26,7 @@ survey-net-requires : tie.Need-survey-net-requires
 survey-net-requires c κs = orderly-here c
 
 returns-2 : tie.Need-returns-2
-unfolding checkSays onWalks
+unfolding checkSays
 returns-2 c =
     let net = c .before .before .before .before .args .net in
     let w = c .before .survey-net in
@@ -35,7 +35,7 @@ returns-2 c =
     rw (orderly-here (c .before .before), ne-eqb (lost net) 0 (omega arith), lowest-is (lost net) p (lost-lt net), w .ensures .lost-are)
 
 returns-3 : tie.Need-returns-3
-unfolding checkSays onWalks
+unfolding checkSays
 returns-3 c =
     let net = c .before .before .before .before .args .net in
     let w = c .before .survey-net in

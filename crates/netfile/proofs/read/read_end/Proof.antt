@@ -4,7 +4,7 @@ use mathlib.Core.Bool.{true}
 use borrow.Author.Needs.{needs}
 use borrow.Author.Tests.{eq-eqb, ne-eqb}
 use denote.Ref.{now}
-use Rattle.text.specs.Lines.{nextLine}
+use Rattle.text.specs.Inner.{nextLine}
 use Rattle.net.specs.Orderly.{endsOk}
 use Rattle.net.proofs.OrderlyLaws.{facts-ends}
 use Rattle.net.proofs.FreshLaws.{fresh-gives-orderly}

@@ -3,7 +3,7 @@ use mathlib.Core.Path.{refl, sym, _∙_}
 use borrow.Author.Needs.{needs}
 use borrow.Author.Tests.{not-true, not-false}
 use denote.Ref.{now}
-use Rattle.text.specs.Lines.{nextLine}
+use Rattle.text.specs.Inner.{nextLine}
 use Rattle.netfile.proofs.FileLaws.{header-line, read-long, read-short}
 use Rattle.netfile.proofs.read.read_net.Statement.{statement}
 use Rattle.netfile.proofs.read.read_net.Tie as tie

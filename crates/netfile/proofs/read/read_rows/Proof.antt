@@ -6,7 +6,8 @@ use mathlib.Core.Bool.{true}
 use borrow.Author.Needs.{needs}
 use denote.Ref.{now}
 use lib.ListN.{length, drop}
-use Rattle.text.specs.Lines.{lines, nextLine}
+use Rattle.text.specs.Lines.{lines}
+use Rattle.text.specs.Inner.{nextLine}
 use Rattle.net.specs.Sides.{netOf}
 use Rattle.net.specs.Orderly.{orderly}
 use Rattle.netfile.specs.NetFile.{readRows}

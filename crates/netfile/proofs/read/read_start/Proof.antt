@@ -2,7 +2,7 @@
 use mathlib.Core.Path.{refl, sym, _∙_}
 use borrow.Author.Needs.{needs}
 use denote.Ref.{now}
-use Rattle.text.specs.Lines.{nextLine}
+use Rattle.text.specs.Inner.{nextLine}
 use Rattle.netfile.proofs.LineReadLaws.{end-is}
 use Rattle.netfile.proofs.FileLaws.{start-line}
 use Rattle.netfile.proofs.read.read_start.Statement.{statement}

@@ -5,7 +5,7 @@ use mathlib.Core.Logic.{⊎-elim}
 use mathlib.Core.Path.{sym}
 use native.Mathlib.Omega.{arith}
 use lib.ListN.{getD}
-use Rattle.net.specs.Sides.{Sides}
+use Rattle.net.specs.Inner.{Sides}
 use Rattle.net.specs.declared.Side.the-variants.{Input, Output}
 use Rattle.net.proofs.OrderlyLaws.{orderly-arrays}
 use Rattle.sequences.proofs.WordLaws.{activity-below}

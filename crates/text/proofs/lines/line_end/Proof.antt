@@ -5,7 +5,7 @@ use native.Mathlib.Omega.{arith}
 use borrow.Author.Needs.{needs}
 use denote.Ref.{now}
 use lib.ListN.{length, drop}
-use Rattle.text.specs.Lines.{lineLength}
+use Rattle.text.specs.Inner.{lineLength}
 use Rattle.text.proofs.LineLaws.{line-here, line-more, line-none}
 use Rattle.text.proofs.lines.line_end.Statement.{statement}
 use Rattle.text.proofs.lines.line_end.Tie as tie
