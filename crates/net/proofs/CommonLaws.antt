@@ -2,7 +2,7 @@
 -- it does. Assumes nothing.
 use Prim.Native.Nat.{ℕ, suc, _<_}
 use native.Mathlib.Omega.{arith}
-use mathlib.Core.Path.{_≡_, refl}
+use mathlib.Core.Path.{_≡_, refl, _∙_}
 use mathlib.Core.Bool.{Bool, true, false, cond}
 use mathlib.Core.List.{List, _∷_}
 use lib.Dec.{eqb, ltb}
@@ -12,7 +12,7 @@ use Rattle.obligations.specs.Tests.{firstFailing}
 use Rattle.obligations.specs.Trace.{firstNoActivity, shaped}
 use Rattle.obligations.proofs.BoolLaws.{false-not-true}
 use Rattle.obligations.proofs.PositionLaws.{first-pass, first-fails}
-use Rattle.obligations.proofs.TraceLaws.{shaped-facts, facts-shaped}
+use Rattle.obligations.proofs.TraceLaws.{no-activity-tests, shaped-facts, facts-shaped}
 use Rattle.net.specs.Refusals.{disorderly, no-activity, wrong-ends}
 use Rattle.net.specs.Sentences.{Sentence, first, First}
 use Rattle.net.specs.Orderly.{Orderly, orderly}
@@ -48,9 +48,9 @@ module _ {A : Type 0} (refusal : ℕ → ℕ → A) (value : A) (ss : List Sente
 
   pub activities-link : (n : ℕ) (activityAt : ℕ → ℕ) → (firstNoActivity n activityAt ≡ 0 → Told refusal ss value rest)
       → Told refusal (notActivities n activityAt ∷ ss) value (cond (eqb (firstNoActivity n activityAt) 0) rest (refusal no-activity (firstNoActivity n activityAt)))
-  unfolding firstNoActivity
   activities-link n activityAt next =
-      failing-link no-activity n (λ i. ltb (activityAt i) activities) _ (λ i l t b. let k = ltb-true (activityAt i) activities t in omega arith) (λ i l t. ltb-false (activityAt i) activities t) next
+      rw (no-activity-tests n activityAt)
+      (failing-link no-activity n (λ i. ltb (activityAt i) activities) _ (λ i l t b. let k = ltb-true (activityAt i) activities t in omega arith) (λ i l t. ltb-false (activityAt i) activities t) (λ e. next (no-activity-tests n activityAt ∙ e)))
 
   pub shape-link : (net : Net) (n : ℕ) (activityAt : ℕ → ℕ) → (shaped (net .start) (net .end) n activityAt ≡ true → Told refusal ss value rest)
       → Told refusal (notShaped net n activityAt ∷ ss) value (cond (shaped (net .start) (net .end) n activityAt) rest (refusal wrong-ends 0))

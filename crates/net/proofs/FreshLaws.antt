@@ -87,7 +87,8 @@ module _ (start end : ℕ) (h : endsOk start end ≡ true) where
       let f = ends-facts start end h in
       parts-orderly (freshNet start end) h (elim [ Input ↦ fresh-arrays start (f .0) | Output ↦ fresh-arrays end (f .1) ])
 
-zero-one : endsOk 0 1 ≡ true
+-- 0 and 1 are ends that fresh accepts
+pub zero-one : endsOk 0 1 ≡ true
 unfolding endsOk
 zero-one = refl
 
@@ -96,3 +97,9 @@ pub fresh-gives-orderly : (start end : ℕ) → orderly (freshGives start end) �
 unfolding freshGives
 fresh-gives-orderly start end =
     ⊎-elim (λ e. rw e (fresh-orderly start end e)) (λ e. rw e (fresh-orderly 0 1 zero-one)) (true-or-false (endsOk start end))
+
+-- ---- the net that fresh returns
+
+pub fresh-given : (start end : ℕ) → endsOk start end ≡ true → freshGives start end ≡ freshNet start end
+unfolding freshGives
+fresh-given start end h = rw h

@@ -181,6 +181,18 @@ pub listed-later : (m x : ℕ) (xs : List ℕ) → listed m xs ≡ true → list
 unfolding listed
 listed-later m x xs h = or-right (eqb x m) h
 
+pub head-or-later : (x m : ℕ) (l : List ℕ) → listed x (m ∷ l) ≡ true → (listed x l ≡ true) ⊎ (x ≡ m)
+unfolding listed
+head-or-later x m l t = ⊎-elim (λ e. inr (sym (eqb-true m x e))) inl (or-cases (eqb m x) (listed x l) t)
+
+pub some-listed : (l : List ℕ) → 0 < length l → (m : ℕ) × (listed m l ≡ true)
+some-listed [] h = absurd (omega arith)
+some-listed (x ∷ xs) h = (x, listed-first x xs)
+
+pub empty-lists-none : (l : List ℕ) (m : ℕ) → length l ≡ 0 → listed m l ≡ false
+empty-lists-none [] m e = none-listed m
+empty-lists-none (x ∷ xs) m e = absurd (omega arith)
+
 pub listed-cases : (m x : ℕ) (xs : List ℕ) → listed m (x ∷ xs) ≡ true → (m ≡ x) ⊎ (listed m xs ≡ true)
 unfolding listed
 listed-cases m x xs h = ⊎-elim (λ e. inl (sym (eqb-true x m e))) (λ e. inr e) (or-cases (eqb x m) (listed m xs) h)

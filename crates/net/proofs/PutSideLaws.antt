@@ -74,6 +74,14 @@ new-plain empty a m l p n j = elim (decEq m 0) [
   | no e ↦ (eqb-false a empty (rw (ne-eqb m 0 e) at p), omega arith)
 ]
 
+-- a set that is empty exactly on the side that holds just the empty set isn't misplaced
+pub placed-one : (empty a m : ℕ) → (m ≡ 0) ↔ (a ≡ empty) → misplaced empty a m ≡ false
+unfolding misplaced
+placed-one empty a m f = elim (decEq m 0) [
+  | yes e ↦ rw (eq-eqb m 0 e, eq-eqb a empty (f .0 e))
+  | no d ↦ rw (ne-eqb m 0 d) (ne-eqb a empty (λ q. d (f .1 q)))
+]
+
 module _ (masks lengths : List ℕ) (empty a m : ℕ) where
   -- a set that isn't misplaced and is refused finds the side full
   pub refused-full : misplaced empty a m ≡ false → sideSays masks lengths empty a m .ok ≡ false → (listed m (sideIn masks lengths a) ≡ false) × (getD lengths a 0 ≡ sets)

@@ -3,16 +3,16 @@
 use Prim.Native.Nat.{ℕ, zero, suc, _<_}
 use native.Mathlib.Decide.{ℕ-discrete as decEq}
 use native.Mathlib.Omega.{arith}
-use mathlib.Core.Path.{_≡_, refl, sym}
+use mathlib.Core.Path.{_≡_, refl}
 use mathlib.Core.Bool.{Bool, true, false, not, _||_, cond}
 use mathlib.Core.List.{List, [], _∷_}
 use mathlib.Core.Logic.{_↔_, _⊎_, inl, inr, ⊎-elim}
 use lib.Dec.{eqb, ltb}
 use lib.ListN.{getD}
-use borrow.Author.Tests.{eqb-true, eqb-false, eq-eqb, ne-eqb, ltb-true, ltb-false, not-true, not-false}
+use borrow.Author.Tests.{lt-ltb, eqb-true, eqb-false, eq-eqb, ne-eqb, ltb-true, ltb-false, not-true, not-false}
 use Rattle.obligations.specs.Limits.{activities}
 use Rattle.obligations.specs.Tests.{indicator}
-use Rattle.obligations.proofs.BoolLaws.{true-or-false, false-not-true, or-cases}
+use Rattle.obligations.proofs.BoolLaws.{true-or-false, false-not-true}
 use Rattle.net.specs.Limits.{sets}
 use Rattle.net.specs.Refusals.{Says, accepted, refused, bad-ends, disorderly, no-activity, misplaced-set, full-side}
 use Rattle.net.specs.Sentences.{AsListed}
@@ -20,14 +20,14 @@ use Rattle.net.specs.Lists.{listed, distinct, AtMost}
 use Rattle.net.specs.Sides.{masksOf, lengthsOf, emptyAt, setsOn, OnSide}
 use Rattle.net.specs.Orderly.{Orderly, endsOk, orderly}
 use Rattle.net.specs.Fresh.{BadEnds, freshRefusals, freshSays}
-use Rattle.net.specs.Put.{Misplaced, putRefusals, misplaced, sideSays, putSays}
+use Rattle.net.specs.Put.{Exceeds, Misplaced, putRefusals, misplaced, sideSays, putSays}
 use Rattle.net.specs.Contained.{ofTwo, containedRefusals, contained, containedSays}
 use Rattle.net.specs.declared.Net.{Net}
 use Rattle.net.specs.declared.Side.{Side}
-use Rattle.net.proofs.SentenceLaws.{ascends, InOrder, Told, passed, stopped, told-end, whole-link, chain-listed}
+use Rattle.net.proofs.SentenceLaws.{Told, passed, stopped, told-end, whole-link, chain-listed}
 use Rattle.net.proofs.OrderlyLaws.{ends-facts, facts-ends, orderly-facts, sets-length, orderly-at-most, orderly-sides}
 use Rattle.net.proofs.SideLaws.{plain-side-ok, side-just-empty}
-use Rattle.net.proofs.ListLaws.{listed-first, listed-later}
+use Rattle.net.proofs.ListLaws.{listed-first, listed-later, head-or-later}
 use Rattle.net.proofs.CommonLaws.{orderly-some, orderly-link}
 use Rattle.net.proofs.DistinctLaws.{distinct-one, distinct-more, ascending-distinct, at-most-listed}
 
@@ -67,10 +67,6 @@ misplaced-exactly net side a m = elim (decEq m 0) [
   )
 ]
 
-pub head-or-later : (x m : ℕ) (l : List ℕ) → listed x (m ∷ l) ≡ true → (listed x l ≡ true) ⊎ (x ≡ m)
-unfolding listed
-head-or-later x m l t = ⊎-elim (λ e. inr (sym (eqb-true m x e))) inl (or-cases (eqb m x) (listed x l) t)
-
 module _ (net : Net) (o : orderly net ≡ true) (side : Side) (a : ℕ) (h : a < activities) where
   -- a side holds no set twice
   pub side-distinct : distinct (setsOn net side a) ≡ true
@@ -105,6 +101,28 @@ put-listed net side a m =
     (λ p. whole-link refused value full-side _ [] (there || not (eqb (getD (lengthsOf net side) a 0) sets)) _
     (λ e w. w (room-exactly net o side a (ltb-true a activities l) m .0 e)) (λ e w. false-not-true e (room-exactly net o side a (ltb-true a activities l) m .1 w))
     (λ e. told-end refused value)))))
+
+-- what put says of a set that isn't empty
+
+pub data PutSaid (net : Net) (side : Side) (a m : ℕ) : Type 0 where
+  said-misplaced : putSays net side a m ≡ refused misplaced-set 0 → a ≡ emptyAt net side → PutSaid net side a m
+  said-full : putSays net side a m ≡ refused full-side 0 → (a ≡ emptyAt net side → ⊥) → Exceeds net side a m → PutSaid net side a m
+  said-put : putSays net side a m .ok ≡ true → (a ≡ emptyAt net side → ⊥) → (Exceeds net side a m → ⊥) → PutSaid net side a m
+
+pub put-said : (net : Net) (side : Side) (a m : ℕ) → orderly net ≡ true → a < activities → 0 < m → PutSaid net side a m
+unfolding putSays sideSays
+put-said net side a m o h k = go (misplaced (emptyAt net side) a m) refl (listed m (setsOn net side a) || not (eqb (getD (lengthsOf net side) a 0) sets)) refl
+  where
+    there : misplaced (emptyAt net side) a m ≡ true → a ≡ emptyAt net side
+    there p = ⊎-elim (λ v. absurd (omega (arith, v .0))) (λ v. v .1) (misplaced-exactly net side a m .0 p)
+
+    elsewhere : misplaced (emptyAt net side) a m ≡ false → a ≡ emptyAt net side → ⊥
+    elsewhere p e = false-not-true p (misplaced-exactly net side a m .1 (inr ((λ z. omega arith), e)))
+
+    go : (p : Bool) → misplaced (emptyAt net side) a m ≡ p → (t : Bool) → listed m (setsOn net side a) || not (eqb (getD (lengthsOf net side) a 0) sets) ≡ t → PutSaid net side a m
+    go true p t q = said-misplaced (rw (o, lt-ltb a activities h, p)) (there p)
+    go false p true q = said-put (rw (o, lt-ltb a activities h, p, q)) (elsewhere p) (λ f. f (room-exactly net o side a h m .0 q))
+    go false p false q = said-full (rw (o, lt-ltb a activities h, p, q)) (elsewhere p) (λ f. false-not-true q (room-exactly net o side a h m .1 f))
 
 -- ---- containment
 

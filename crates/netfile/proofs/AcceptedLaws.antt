@@ -19,7 +19,7 @@ use Rattle.net.specs.Fresh.{freshNet}
 use Rattle.net.specs.declared.Net.{Net}
 use Rattle.net.specs.declared.Side.{Side}
 use Rattle.net.proofs.OrderlyLaws.{facts-ends}
-use Rattle.net.proofs.FreshLaws.{fresh-start, fresh-end, fresh-on-side, fresh-orderly}
+use Rattle.net.proofs.FreshLaws.{fresh-start, fresh-end, fresh-on-side, fresh-orderly, zero-one}
 use Rattle.net.proofs.PutLaws.{put-start, put-end, put-on-side}
 use Rattle.net.proofs.WithinLaws.{same-empty}
 use Rattle.netfile.specs.Limits.{netBytes}
@@ -35,8 +35,7 @@ use Rattle.netfile.proofs.LineReadLaws.{end-is, start-exactly, end-exac
 
 -- the net of a refused reading
 pub refused-orderly : orderly (freshNet 0 1) ≡ true
-unfolding endsOk
-refused-orderly = fresh-orderly 0 1 refl
+refused-orderly = fresh-orderly 0 1 zero-one
 
 -- ---- the rows
 

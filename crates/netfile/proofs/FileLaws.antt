@@ -2,7 +2,7 @@
 -- an empty line has no comma and is no header. Assumes nothing.
 use Prim.Native.Nat.{ℕ, _+_, _≤_, _<_}
 use mathlib.Core.Path.{_≡_}
-use mathlib.Core.Bool.{true, cond}
+use mathlib.Core.Bool.{cond}
 use mathlib.Core.List.{List, [], _∷_}
 use mathlib.Core.Logic.{_⊎_, inl, inr, ⊎-elim}
 use native.Mathlib.Omega.{arith}
@@ -15,8 +15,6 @@ use Rattle.text.specs.Lines.{lines}
 use Rattle.text.specs.Inner.{lineEnd, nextLine}
 use Rattle.text.proofs.LineLaws.{lines-step, lines-end, line-none}
 use Rattle.net.specs.Refusals.{outside-limits, line-form}
-use Rattle.net.specs.Orderly.{endsOk}
-use Rattle.net.specs.Fresh.{freshNet, freshGives}
 use Rattle.net.specs.declared.Net.{Net}
 use Rattle.netfile.specs.Limits.{netBytes}
 use Rattle.netfile.specs.Steps.{rowPut}
@@ -70,9 +68,3 @@ read-long s h = rw (lt-leb (length s) netBytes h)
 pub read-short : (s : List ℕ) → length s ≤ netBytes → readNet s ≡ fromHeader (lines (drop 0 s))
 unfolding readNet
 read-short s h = rw (le-leb (length s) netBytes h)
-
--- ---- the net that the rows are put into
-
-pub fresh-made : (start end : ℕ) → endsOk start end ≡ true → freshGives start end ≡ freshNet start end
-unfolding freshGives
-fresh-made start end h = rw h

@@ -2,18 +2,17 @@
 -- none that holds, and else the one that is said is the first that holds. The rows are followed with the net so far, which holds the
 -- two empty sets and the sets of the rows on the lines from 4 on, so that what put says of a row is what its line's sentences say.
 -- Assumes nothing.
-use Prim.Native.Nat.{ℕ, zero, suc, _+_, _-_, _≤_, _<_}
+use Prim.Native.Nat.{ℕ, zero, suc, _+_, _-_, _≤_}
 use native.Mathlib.Decide.{ℕ-discrete as decEq}
 use native.Mathlib.Numerals.{add-one}
 use native.Mathlib.Omega.{arith}
 use mathlib.Core.Path.{_≡_, refl, sym, ap, _∙_}
-use mathlib.Core.Bool.{Bool, true, false, cond, not, _||_}
+use mathlib.Core.Bool.{Bool, true, false, cond, not}
 use mathlib.Core.List.{List, [], _∷_}
 use mathlib.Core.Logic.{_⊎_, inl, inr, ⊎-elim, _↔_}
 use lib.Dec.{leb, eqb}
 use lib.ListN.{length, getD, drop, List·getD-eq-default}
-use borrow.Author.Tests.{leb-true, leb-false, eqb-true, eqb-false, lt-ltb}
-use Rattle.obligations.specs.Limits.{activities}
+use borrow.Author.Tests.{leb-true, leb-false, eqb-true, eqb-false}
 use Rattle.obligations.proofs.BoolLaws.{false-not-true}
 use Rattle.text.specs.Bytes.{sameBytes}
 use Rattle.text.specs.Lines.{lines, HasLine, lineAt}
@@ -23,10 +22,10 @@ use Rattle.net.specs.Refusals.{Says, accepted, refused, bad-ends, outside-limit
 use Rattle.net.specs.Limits.{sets}
 use Rattle.net.specs.Sentences.{NoneHolds, orderOnLine, AsListedByLine}
 use Rattle.net.specs.Lists.{listed, AtMost}
-use Rattle.net.specs.Sides.{lengthsOf, emptyAt, setsOn, OnSide}
+use Rattle.net.specs.Sides.{emptyAt, OnSide}
 use Rattle.net.specs.Orderly.{orderly}
 use Rattle.net.specs.Fresh.{freshNet}
-use Rattle.net.specs.Put.{Exceeds, misplaced, putSays, putGives, sideSays}
+use Rattle.net.specs.Put.{Exceeds, misplaced, putSays, putGives}
 use Rattle.net.specs.declared.Net.{Net}
 use Rattle.net.specs.declared.Side.{Side}
 use Rattle.net.specs.declared.Side.the-variants.{Input, Output}
@@ -35,7 +34,7 @@ use Rattle.net.proofs.OrderlyLaws.{facts-ends}
 use Rattle.net.proofs.FreshLaws.{fresh-start, fresh-end, fresh-orderly, fresh-on-side}
 use Rattle.net.proofs.PutLaws.{put-start, put-end, put-orderly, put-on-side}
 use Rattle.net.proofs.WithinLaws.{same-empty}
-use Rattle.net.proofs.RefusalLaws.{misplaced-exactly, room-exactly}
+use Rattle.net.proofs.RefusalLaws.{PutSaid, said-misplaced, said-full, said-put, put-said}
 use Rattle.net.proofs.DistinctLaws.{fewer}
 use Rattle.netfile.specs.Limits.{netBytes}
 use Rattle.netfile.specs.NetFile.{netHeader, startWord, endWord, readEnd, readRow, rowSays, rowGives, refusedAt, readRows, afterEnd, fromEnd, afterStart, fromStart, fromHeader, readNet}
@@ -44,28 +43,6 @@ use Rattle.netfile.specs.declared.line.EndLine.{EndLine}
 use Rattle.netfile.specs.declared.line.RowLine.{RowLine}
 use Rattle.netfile.proofs.RowLaws.{row-commas as row-commas-said}
 use Rattle.netfile.proofs.LineReadLaws.{EndSaid, end-form, end-number, end-row, end-said, start-same, end-same, RowSaid, row-form, row-number, set-row, row-said, row-exactly, row-same}
-
--- ---- what put says of a set that isn't empty
-
-data PutSaid (net : Net) (side : Side) (a m : ℕ) : Type 0 where
-  said-misplaced : putSays net side a m ≡ refused misplaced-set 0 → a ≡ emptyAt net side → PutSaid net side a m
-  said-full : putSays net side a m ≡ refused full-side 0 → (a ≡ emptyAt net side → ⊥) → Exceeds net side a m → PutSaid net side a m
-  said-put : putSays net side a m .ok ≡ true → (a ≡ emptyAt net side → ⊥) → (Exceeds net side a m → ⊥) → PutSaid net side a m
-
-put-said : (net : Net) (side : Side) (a m : ℕ) → orderly net ≡ true → a < activities → 0 < m → PutSaid net side a m
-unfolding putSays sideSays
-put-said net side a m o h k = go (misplaced (emptyAt net side) a m) refl (listed m (setsOn net side a) || not (eqb (getD (lengthsOf net side) a 0) sets)) refl
-  where
-    there : misplaced (emptyAt net side) a m ≡ true → a ≡ emptyAt net side
-    there p = ⊎-elim (λ v. absurd (omega (arith, v .0))) (λ v. v .1) (misplaced-exactly net side a m .0 p)
-
-    elsewhere : misplaced (emptyAt net side) a m ≡ false → a ≡ emptyAt net side → ⊥
-    elsewhere p e = false-not-true p (misplaced-exactly net side a m .1 (inr ((λ z. omega arith), e)))
-
-    go : (p : Bool) → misplaced (emptyAt net side) a m ≡ p → (t : Bool) → listed m (setsOn net side a) || not (eqb (getD (lengthsOf net side) a 0) sets) ≡ t → PutSaid net side a m
-    go true p t q = said-misplaced (rw (o, lt-ltb a activities h, p)) (there p)
-    go false p true q = said-put (rw (o, lt-ltb a activities h, p, q)) (elsewhere p) (λ f. f (room-exactly net o side a h m .0 q))
-    go false p false q = said-full (rw (o, lt-ltb a activities h, p, q)) (elsewhere p) (λ f. false-not-true q (room-exactly net o side a h m .1 f))
 
 -- ---- lines by their numbers
 

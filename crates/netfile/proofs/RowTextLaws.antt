@@ -7,27 +7,25 @@ use mathlib.Core.Path.{_≡_, refl, sym, ap, _∙_}
 use mathlib.Core.Bool.{true, false}
 use mathlib.Core.Logic.{⊎-elim}
 use mathlib.Core.List.{List, [], _∷_, _++_, List·Memᴰ, List·Memᴰ·head, List·Memᴰ·not-nil, List·Memᴰ·cases-cons, List·Memᴰ·append-cases, List·Memᴰ·eq-of-singleton, Memᴰ·append-left, Memᴰ·append-right}
-use lib.Dec.{eqb}
-use borrow.Author.Tests.{eqb-true, eq-eqb}
 use Rattle.obligations.specs.Limits.{activities}
-use Rattle.obligations.proofs.BoolLaws.{false-not-true, or-right, or-cases}
+use Rattle.obligations.proofs.BoolLaws.{false-not-true}
 use Rattle.text.specs.Bytes.{count}
 use Rattle.text.specs.Lines.{cr, lines}
 use Rattle.text.specs.Fields.{comma, split, join}
-use Rattle.text.specs.Decimal.{isEmpty, isNumber, printNumber}
-use Rattle.text.specs.Members.{highest, areMembers, parseMembers, printMembers}
+use Rattle.text.specs.Decimal.{printNumber}
+use Rattle.text.specs.Members.{highest, printMembers}
 use Rattle.text.specs.declared.members.Members.the-variants as members
 use Rattle.text.proofs.ByteLaws.{count-append}
 use Rattle.text.proofs.LineLaws.{lines-unlines}
 use Rattle.text.proofs.FieldLaws.{split-join}
 use Rattle.text.proofs.DecimalLaws.{parse-print, number-free}
-use Rattle.text.proofs.MemberListLaws.{parse-print-members, members-free}
+use Rattle.text.proofs.MemberListLaws.{parse-print-members, members-free, members-filled}
 use Rattle.net.specs.Lists.{listed}
 use Rattle.net.specs.Sides.{setsOn, OnSide}
 use Rattle.net.specs.declared.Net.{Net}
 use Rattle.net.specs.declared.Side.{Side}
 use Rattle.net.specs.declared.Side.the-variants.{Input, Output}
-use Rattle.net.proofs.ListLaws.{none-listed, listed-one, one-listed}
+use Rattle.net.proofs.ListLaws.{none-listed, listed-one, one-listed, listed-first, listed-later, head-or-later}
 use Rattle.netfile.specs.NetFile.{startWord, endWord, sideWord, endNumber, readEnd, readRow, endText, rowText, setLines, setsLines, sideLines, activityLines, headLines, netLines, netText}
 use Rattle.netfile.specs.declared.line.EndLine.the-variants.{Activity}
 use Rattle.netfile.specs.declared.line.RowLine.the-variants.{Set}
@@ -68,21 +66,16 @@ module _ (a : ℕ) (h : a < activities) where
 
 -- ---- a set's row
 
-filled : (s : List ℕ) (m : ℕ) → parseMembers s ≡ members.Set m → isEmpty s ≡ false
-unfolding parseMembers areMembers isNumber
-filled [] m h = let z : _≡_ {A = ℕ} 0 1 = cc in absurd (omega arith)
-filled (b ∷ s) m h = refl
-
 pub row-back : (side : Side) (a m : ℕ) → a < activities → 0 < m → m < 2 ^ 32 → readRow (rowText side a m) ≡ Set side a m
 row-back side a m h k u = word side (fields-back (sideWord side) (printNumber a) (printMembers m) (word-no-comma side) (number-free comma a (omega arith)) (members-free comma m (omega arith) (λ e. omega arith)))
   where
     word : (t : Side) → split comma (rowText t a m) ≡ sideWord t ∷ printNumber a ∷ printMembers m ∷ [] → readRow (rowText t a m) ≡ Set t a m
     word Input f =
         row-in (rowText Input a m) (sideWord Input) (printNumber a) (printMembers m) f refl
-        ∙ rest-set Input (printNumber a) (printMembers m) (filled (printMembers m) m (parse-print-members m k u)) a m (parse-print highest a (omega arith) (omega arith)) (parse-print-members m k u)
+        ∙ rest-set Input (printNumber a) (printMembers m) (members-filled (printMembers m) m (parse-print-members m k u)) a m (parse-print highest a (omega arith) (omega arith)) (parse-print-members m k u)
     word Output f =
         row-out (rowText Output a m) (sideWord Output) (printNumber a) (printMembers m) f refl refl
-        ∙ rest-set Output (printNumber a) (printMembers m) (filled (printMembers m) m (parse-print-members m k u)) a m (parse-print highest a (omega arith) (omega arith)) (parse-print-members m k u)
+        ∙ rest-set Output (printNumber a) (printMembers m) (members-filled (printMembers m) m (parse-print-members m k u)) a m (parse-print highest a (omega arith) (omega arith)) (parse-print-members m k u)
 
 -- ---- the rows of a net
 
@@ -102,22 +95,22 @@ module _ (side : Side) (a : ℕ) where
 
   -- each row is of a set of the list, and each set that is not empty has its row
   sets-row-of : (l line : List ℕ) → List·Memᴰ line (setsLines side a l) → SetRow side a l line
-  unfolding setsLines listed
+  unfolding setsLines
   sets-row-of [] line i = absurd (List·Memᴰ·not-nil i)
   sets-row-of (m ∷ ms) line i = ⊎-elim (λ j. first (set-row-of m line j)) (λ j. later (sets-row-of ms line j)) (List·Memᴰ·append-cases (setLines side a m) i)
     where
       first : SetRow side a (m ∷ []) line → SetRow side a (m ∷ ms) line
-      first r = record { set = r .set; some = r .some; there = rw (eq-eqb m (r .set) (sym (listed-one (r .set) m (r .there)))); is-text = r .is-text }
+      first r = record { set = r .set; some = r .some; there = rw (listed-one (r .set) m (r .there)) (listed-first m ms); is-text = r .is-text }
 
       later : SetRow side a ms line → SetRow side a (m ∷ ms) line
-      later r = record { set = r .set; some = r .some; there = or-right (eqb m (r .set)) (r .there); is-text = r .is-text }
+      later r = record { set = r .set; some = r .some; there = listed-later (r .set) m ms (r .there); is-text = r .is-text }
 
   sets-row : (l : List ℕ) (m : ℕ) → listed m l ≡ true → 0 < m → List·Memᴰ (rowText side a m) (setsLines side a l)
-  unfolding setsLines listed
+  unfolding setsLines
   sets-row [] m h k = absurd (false-not-true (none-listed m) h)
   sets-row (x ∷ xs) m h k =
-      ⊎-elim (λ e. first (eqb-true x m e)) (λ e. Memᴰ·append-right (setLines side a x) (sets-row xs m e k))
-      (or-cases (eqb x m) (listed m xs) h)
+      ⊎-elim (λ e. Memᴰ·append-right (setLines side a x) (sets-row xs m e k)) (λ e. first (sym e))
+      (head-or-later m x xs h)
     where
       first : x ≡ m → List·Memᴰ (rowText side a m) (setLines side a x ++ setsLines side a xs)
       first e = rw (e, set-row side a m (λ d. omega arith)) (List·Memᴰ·head refl)

@@ -28,7 +28,7 @@ use Rattle.net.proofs.OrderlyLaws.{ends-facts, orderly-ends, orderly-sides, ord
 use Rattle.net.proofs.FreshLaws.{fresh-start, fresh-end, fresh-on-side, fresh-orderly}
 use Rattle.net.proofs.PutLaws.{put-says-side}
 use Rattle.net.proofs.WithinLaws.{contained-same, put-accepts-within, put-keeps-within, same-empty}
-use Rattle.net.proofs.SentenceLaws.{ascends, told-end, whole-link, chain-listed, accepted-not-refused}
+use Rattle.net.proofs.SentenceLaws.{told-end, whole-link, chain-listed, accepted-not-refused}
 use Rattle.net.proofs.CommonLaws.{orderly-link}
 use Rattle.netfile.specs.NetFile.{readRow, rowSays, rowGives, Reading, readAs, readRows, fromEnd, fromStart, fromHeader, readNet, activityLines, headLines, netLines, netText, writeRefusals, writeSays, writeGives}
 use Rattle.netfile.specs.Statements.{NetListed, WriteListed, RefusedFresh, LinesRead, HasRow, NetAccepted, ReadSaid, SameRowsSameNet, ReadOrderly, RowSaysSide, RoundTrip, WrittenRead, ReadAgain}

@@ -9,7 +9,8 @@ use native.Mathlib.Numerals.{add-one}
 use native.Mathlib.Omega.{arith}
 use lib.ListN.{length, getD, take}
 use lib.Seq.{take-suc}
-use Rattle.obligations.specs.State.{nothing, possible, after, allZero, State}
+use Rattle.obligations.specs.Tests.{firstFailing}
+use Rattle.obligations.specs.State.{nothing, possible, taken, added, after, allZero, State}
 use Rattle.obligations.specs.Sequence.{Binding, bindings, words, at, run, ψ, Possible, NothingLeft, possibleAt, firstImpossible, completes}
 use Rattle.obligations.proofs.BoolLaws.{and-left, and-right, and-both, true-or-false, false-not-true}
 use Rattle.obligations.proofs.StateLaws.{after-state, nothing-state}
@@ -78,6 +79,16 @@ held-at (a ∷ x ∷ y ∷ w) (suc i) h =
 abbrev pub fired : List ℕ → Binding → List ℕ
 fired d b = after d (b .activity) (b .input) (b .output)
 
+-- the step is the taking and then the adding
+pub after-is : (d : List ℕ) (a x y : ℕ) → after d a x y ≡ added (taken d a x) a y
+unfolding after
+after-is d a x y = refl
+
+-- before the first position nothing is due
+pub ψ-none : ψ [] ≡ nothing
+unfolding run
+ψ-none = refl
+
 pub run-append : (d : List ℕ) (s t : List Binding) → run d (s ++ t) ≡ run (run d s) t
 unfolding run
 run-append d [] t = refl
@@ -97,6 +108,15 @@ pub ψ-state : (s : List Binding) → State (length s) (ψ s)
 ψ-state s = subst (λ (k : ℕ). State k (ψ s)) (omega arith) (run-state 0 nothing s nothing-state)
 
 -- ---- each binding possible after those before it
+
+-- the test of a position, and the tests of all
+pub possible-test : (s : List Binding) (i : ℕ) → possibleAt s i ≡ possible (ψ (take i s)) (at s i .activity) (at s i .input)
+unfolding possibleAt
+possible-test s i = refl
+
+pub impossible-tests : (s : List Binding) → firstImpossible s ≡ firstFailing (length s) (possibleAt s)
+unfolding firstImpossible
+impossible-tests s = refl
 
 pub possible-at : (s : List Binding) (i : ℕ) → (possibleAt s i ≡ true) ↔ Possible (ψ (take i s)) (at s i)
 unfolding possibleAt
@@ -154,6 +174,15 @@ completes-cons d b s = refl
 -- from the state d on, each binding is possible after those before it
 abbrev pub EachFrom : List ℕ → List Binding → Type 0
 EachFrom d s = (i : ℕ) → i < length s → possible (run d (take i s)) (at s i .activity) (at s i .input) ≡ true
+
+-- the first binding, and the others from the state after it
+pub each-first : (d : List ℕ) (b : Binding) (s : List Binding) → EachFrom d (b ∷ s) → possible d (b .activity) (b .input) ≡ true
+unfolding run
+each-first d b s e = e 0 (omega arith)
+
+pub each-rest : (d : List ℕ) (b : Binding) (s : List Binding) → EachFrom d (b ∷ s) → EachFrom (fired d b) s
+unfolding run
+each-rest d b s e i h = e (suc i) (omega arith)
 
 pub completes-each : (d : List ℕ) (s : List Binding) → completes d s ≡ true → EachFrom d s
 unfolding completes run

@@ -1,6 +1,6 @@
 -- The tests on the activities of a trace or a sequence, said of each position. Assumes nothing.
 use Prim.Native.Nat.{ℕ, _+_, _*_, _-_, _≤_, _<_}
-use mathlib.Core.Path.{_≡_, sym, ap, ap₂, _∙_}
+use mathlib.Core.Path.{_≡_, refl, sym, ap, ap₂, _∙_}
 use mathlib.Core.Logic.{_↔_, _⊎_, inl, inr, ⊎-elim}
 use mathlib.Core.Bool.{Bool, true, false, _&&_, Bool·beq, and-false}
 use native.Mathlib.Nat.{mul-suc, mul-le-mul-left}
@@ -8,6 +8,7 @@ use native.Mathlib.Numerals.{add-one}
 use native.Mathlib.Omega.{arith}
 use borrow.Author.Tests.{eq-eqb, ne-eqb, eqb-true, le-leb, leb-true, lt-leb, le-ltb, ltb-true, lt-ltb}
 use lib.Dec.{eqb, leb, ltb}
+use Rattle.obligations.specs.Limits.{activities}
 use Rattle.obligations.specs.Tests.{firstFailing}
 use Rattle.obligations.specs.Trace.{firstNoActivity, endsAgree, shaped, Shaped}
 use Rattle.obligations.proofs.BoolLaws.{same-test, and-left, and-right, and-both, true-or-false, false-not-true}
@@ -60,6 +61,11 @@ stride-inside stride i n size p h l =
     omega (arith, stride-next stride i)
 
 -- ---- the loops' ways out
+
+-- the test of each position
+pub no-activity-tests : (n : ℕ) (activityAt : ℕ → ℕ) → firstNoActivity n activityAt ≡ firstFailing n (λ i. ltb (activityAt i) activities)
+unfolding firstNoActivity
+no-activity-tests n activityAt = refl
 
 pub no-activity-at : (n : ℕ) (activityAt : ℕ → ℕ) (i : ℕ) → i < n → AllPass i (λ j. ltb (activityAt j) 32) → 31 < activityAt i → firstNoActivity n activityAt ≡ i + 1
 unfolding firstNoActivity

@@ -1,13 +1,11 @@
 -- One call, said of learn and follow alike, since a follow is the learn of its trace's sequence: it is answered by its sentences, an
 -- accepted one gives the net with its sequence's sets, and a refused one gives the net back. Assumes nothing.
-use Prim.Native.Nat.{ℕ, zero, suc, _+_, _*_, _^_, _<_}
-use mathlib.Core.Path.{_≡_, refl, sym, ap, subst, _∙_}
-use mathlib.Core.List.{List, [], _∷_}
+use Prim.Native.Nat.{ℕ, _+_, _*_}
+use mathlib.Core.Path.{_≡_, refl, sym, subst, _∙_}
+use mathlib.Core.List.{List}
 use mathlib.Core.Logic.{_↔_}
 use native.Mathlib.Omega.{arith}
-use Rattle.obligations.specs.Sets.{single}
 use Rattle.obligations.specs.Sequence.{Binding, bindings, words}
-use Rattle.obligations.proofs.SetLaws.{single-lt}
 use Rattle.obligations.proofs.SequenceLaws.{bindings-words, held-at}
 use Rattle.net.specs.Refusals.{Says, accepted, refused}
 use Rattle.net.specs.Sentences.{NoneHolds, AsListed}
@@ -17,11 +15,12 @@ use Rattle.net.specs.declared.Side.the-variants.{Input, Output}
 use Rattle.net.proofs.SentenceLaws.{Told, told-accepted}
 use Rattle.sequences.specs.Gain.{gained, Gains}
 use Rattle.sequences.specs.Learn.{newSets, learnSays, learnGives}
-use Rattle.sequences.specs.Follow.{followedFrom, followed, followGives}
+use Rattle.sequences.specs.Follow.{followed}
 use Rattle.sequences.specs.Statements.{Words}
+use Rattle.sequences.proofs.FollowLaws.{words-followed}
 use Rattle.sequences.proofs.FollowLearnLaws.{follow-is-learn}
 use Rattle.sequences.proofs.RefusalLaws.{learn-told, learn-listed, follow-told, follow-listed}
-use Rattle.sequences.proofs.Theorems.{learn-holds, learn-valid, refused-same}
+use Rattle.sequences.proofs.Theorems.{learn-gives, follow-gives, learn-holds, learn-valid, refused-same}
 use Rattle.promises.specs.Calls.{Call, learn, follow, wordsOf, sequenceOf, refusals, says, gives}
 use Rattle.promises.proofs.ValidWalkLaws.{SetsAreMasks}
 
@@ -74,27 +73,14 @@ module _ (net : Net) (call : Call) (new : ℕ) (e : says net call ≡ accepted n
       (subst (Valid (learnGives net (learnedWords call))) (bindings-learned call) (learn-valid net (learnedWords call) new learned-says))
 
 pub call-gained : (net : Net) (call : Call) (new : ℕ) → says net call ≡ accepted new → gives net call ≡ gained net (sequenceOf call)
-unfolding learnGives followGives
-call-gained net (learn ws) new e = rw (ap (λ (s : Says). s .ok) e)
-call-gained net (follow trace) new e = rw (ap (λ (s : Says). s .ok) e)
+call-gained net (learn ws) new e = learn-gives net ws new e
+call-gained net (follow trace) new e = follow-gives net trace new e
 
 pub call-stays : (net : Net) (call : Call) (n p : ℕ) → says net call ≡ refused n p → gives net call ≡ net
 call-stays net (learn ws) n p e = refused-same net ws n p .0 e
 call-stays net (follow trace) n p e = refused-same net trace n p .1 e
 
 -- ---- the sets of a call's sequence, where its words have 32 bits
-
-words-followed : (x : ℕ) (trace : List ℕ) → x < 2 ^ 32 → Words trace → Words (words (followedFrom x trace))
-unfolding followedFrom words
-words-followed x [] h w i = omega arith
-words-followed x (a ∷ []) h w zero = w 0
-words-followed x (a ∷ []) h w (suc zero) = h
-words-followed x (a ∷ []) h w (suc (suc zero)) = omega arith
-words-followed x (a ∷ []) h w (suc (suc (suc i))) = omega arith
-words-followed x (a ∷ b ∷ trace) h w zero = w 0
-words-followed x (a ∷ b ∷ trace) h w (suc zero) = h
-words-followed x (a ∷ b ∷ trace) h w (suc (suc zero)) = single-lt b
-words-followed x (a ∷ b ∷ trace) h w (suc (suc (suc i))) = words-followed (single a) (b ∷ trace) (single-lt a) (λ j. w (suc j)) i
 
 words-learned : (call : Call) → Words (wordsOf call) → Words (learnedWords call)
 words-learned (learn ws) w = w

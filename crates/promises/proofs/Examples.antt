@@ -23,7 +23,7 @@ use Rattle.net.specs.declared.ContainedAnswer.the-variants.{Yes, No}
 use Rattle.walks.specs.Below.{anyBelow, sumBelow, withIf, thoseBelow, those}
 use Rattle.walks.specs.Arcs.{named, names, arc, arcs}
 use Rattle.walks.specs.Rows.{rowsFrom, rows, unionFrom, grown as grownBy, rounds, reach}
-use Rattle.walks.specs.Check.{onSides, inNet, successors, predecessors, outside, lost, lowestMember, onWalks, checkMeans, checkSays}
+use Rattle.walks.specs.Check.{onSides, inNet, successors, predecessors, outside, lost, lowestMember, checkMeans, checkSays}
 use Rattle.walks.specs.declared.CheckAnswer.the-variants.{Passed}
 use Rattle.sequences.specs.Limits.{wordsWithin, withinLimits, traceWithinLimits}
 use Rattle.sequences.specs.Gain.{withPut, takesPut, withBinding, takesBinding, gained, fits}

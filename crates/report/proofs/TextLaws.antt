@@ -2,11 +2,8 @@
 -- its length: a row's line has at most 28 bytes, and so has the header. Assumes nothing.
 use Prim.Native.Nat.{ℕ, zero, suc, _+_, _-_, _*_, _≤_, _<_}
 use mathlib.Core.Path.{_≡_, refl, sym, _∙_}
-use mathlib.Core.Bool.{Bool, true, false, cond}
 use mathlib.Core.List.{List, [], _∷_, _++_, append-assoc, append-nil}
 use native.Mathlib.Omega.{arith}
-use borrow.Author.Tests.{leb-true}
-use lib.Dec.{leb}
 use lib.ListN.{length, length-append}
 use Rattle.obligations.specs.Limits.{positions}
 use Rattle.text.specs.Lines.{cr, lf}
@@ -16,8 +13,9 @@ use Rattle.net.specs.declared.Net.{Net}
 use Rattle.logfile.specs.Limits.{logRows, mostSessions}
 use Rattle.logfile.specs.LogFile.{Reading, row, end, fault, readRow}
 use Rattle.logfile.proofs.Theorems.{row-is-trace, later-same}
-use Rattle.search.specs.Search.{Result, found, failed, trialsOf}
-use Rattle.search.specs.Replay.{ReplaySays, says-found, says-none, says-spent, says-refused, endSays, replayed, within, checkedSays}
+use Rattle.search.specs.Search.{found}
+use Rattle.search.proofs.ReplayLaws.{said-within}
+use Rattle.search.specs.Replay.{ReplaySays, says-found, says-none, says-spent, says-refused, within, checkedSays}
 use Rattle.text.proofs.DigitLaws.{number-below, number-within}
 use Rattle.report.specs.Report.{rowBudget, refusedWord, answerWord, answerTrials, refusalText, rowText, readingText, rowsText}
 
@@ -66,22 +64,8 @@ module _ (r s : ℕ) (a : ReplaySays) where
   row-short h k l = omega (arith, row-width, word-short, number-below 3 r (omega arith), number-below 6 s (omega arith), number-below 6 (answerTrials a) (omega arith))
 
 -- a replay says no more trials than its budget
-end-trials : (r : Result) → answerTrials (endSays r) ≡ trialsOf r
-unfolding endSays trialsOf
-end-trials (found s n) = refl
-end-trials (failed n) = refl
-
-within-most : (budget : ℕ) (r : Result) → answerTrials (within budget r) ≤ budget
-unfolding within
-within-most budget r = go (leb (trialsOf r) budget) refl
-  where
-    go : (b : Bool) → leb (trialsOf r) budget ≡ b → answerTrials (cond b (endSays r) (says-spent budget)) ≤ budget
-    go true e = omega (arith, end-trials r, leb-true (trialsOf r) budget e)
-    go false e = omega arith
-
 trials-most : (net : Net) (t : List ℕ) (budget : ℕ) → answerTrials (checkedSays net t budget) ≤ budget
-unfolding checkedSays
-trials-most net t budget = within-most budget (replayed net t)
+trials-most net t budget = said-within net t budget (λ a. answerTrials a ≤ budget) (λ n h. h) (λ n h. h) (λ n h. h)
 
 -- ---- the rows
 

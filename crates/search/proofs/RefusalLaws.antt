@@ -15,10 +15,9 @@ use Rattle.net.specs.Orderly.{orderly}
 use Rattle.net.specs.Traces.{activityIn, noActivityIn}
 use Rattle.net.specs.declared.Net.{Net}
 use Rattle.net.proofs.OrderlyLaws.{facts-orderly}
-use Rattle.net.proofs.SentenceLaws.{ascends, Told, told-end, whole-link, told-listed, chain-listed, told-map, told-accepted}
+use Rattle.net.proofs.SentenceLaws.{Told, told-end, whole-link, told-listed, chain-listed, told-map, told-accepted}
 use Rattle.net.proofs.CommonLaws.{orderly-link, activities-link}
 use Rattle.net.proofs.ChainLaws.{unless-passes, none-passes}
-use Rattle.walks.specs.Check.{onWalks}
 use Rattle.walks.proofs.CheckLaws.{none-lost-passes, passes-none-lost, walks-link, walks-pass}
 use Rattle.search.specs.Search.{Result, found, failed, trialsOf}
 use Rattle.search.specs.Trace.{hasRoom}

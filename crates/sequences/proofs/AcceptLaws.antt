@@ -2,12 +2,11 @@
 -- well-formed and fitting. Assumes nothing.
 use Prim.Native.Nat.{ℕ, _+_, _*_, _/_, _%_, _≤_, _<_}
 use mathlib.Core.Path.{_≡_}
-use mathlib.Core.Bool.{true, false, Bool·beq}
+use mathlib.Core.Bool.{true, Bool·beq}
 use mathlib.Core.List.{List}
 use mathlib.Core.Logic.{_↔_}
-use native.Mathlib.Decide.{ℕ-discrete as decEq}
 use native.Mathlib.Omega.{arith}
-use borrow.Author.Tests.{eq-eqb, ne-eqb, eqb-true, le-leb, leb-true}
+use borrow.Author.Tests.{eq-eqb, eqb-true, le-leb, leb-true}
 use lib.Dec.{eqb, leb}
 use lib.ListN.{length}
 use Rattle.obligations.specs.State.{allZero}
@@ -21,6 +20,7 @@ use Rattle.net.specs.Orderly.{orderly}
 use Rattle.net.specs.Put.{misplaced}
 use Rattle.net.specs.declared.Net.{Net}
 use Rattle.net.proofs.OrderlyLaws.{orderly-facts, facts-orderly}
+use Rattle.net.proofs.PutSideLaws.{placed-one}
 use Rattle.net.proofs.ChainLaws.{unless-passes, none-passes}
 use Rattle.sequences.specs.Limits.{wordsWithin, withinLimits}
 use Rattle.sequences.specs.Gain.{fits}
@@ -59,13 +59,6 @@ unfolding firstWronglyEmpty
 facts-empty s f = pass-first (length s) (emptyAgree s) (λ i l. agree-exactly s i .1 (f .inputs i l, f .outputs i l))
 
 -- ---- no set is misplaced in a sequence whose ends and empty sets are where they have to be
-
-placed-one : (empty a m : ℕ) → (m ≡ 0) ↔ (a ≡ empty) → misplaced empty a m ≡ false
-unfolding misplaced
-placed-one empty a m f = elim (decEq m 0) [
-  | yes e ↦ rw (eq-eqb m 0 e, eq-eqb a empty (f .0 e))
-  | no d ↦ rw (ne-eqb m 0 d) (ne-eqb a empty (λ q. d (f .1 q)))
-]
 
 pub well-placed : (net : Net) (s : List Binding) → Shaped (net .start) (net .end) (length s) (λ i. at s i .activity) → EmptyWhere s → Placed net s
 well-placed net s h f i l = (

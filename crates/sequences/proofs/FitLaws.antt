@@ -20,7 +20,8 @@ use Rattle.net.specs.declared.Side.the-variants.{Input, Output}
 use Rattle.net.proofs.PutSideLaws.{refused-full}
 use Rattle.net.proofs.OrderlyLaws.{sets-length, orderly-at-most}
 use Rattle.net.proofs.DistinctLaws.{distinct-more, at-most-listed, fewer}
-use Rattle.net.proofs.RefusalLaws.{side-distinct, head-or-later}
+use Rattle.net.proofs.ListLaws.{head-or-later}
+use Rattle.net.proofs.RefusalLaws.{side-distinct}
 use Rattle.sequences.specs.Gain.{withPut, takesPut, withBinding, takesBinding, gained, fits, setFor, SetOf, Fits}
 use Rattle.sequences.proofs.GrowthLaws.{Activities, with-binding-orderly, with-binding-on-side, set-first, set-later, gained-orderly, gained-on-side}
 

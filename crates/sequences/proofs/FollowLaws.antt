@@ -1,6 +1,6 @@
 -- The sequence of a trace: its positions one by one, that it is well-formed where start and end stand as they have to, and
 -- that following is learning it. Each position takes the one obligation that the one before it handed on. Assumes nothing.
-use Prim.Native.Nat.{ℕ, zero, suc, _+_, _*_, _≤_, _<_}
+use Prim.Native.Nat.{ℕ, zero, suc, _+_, _*_, _^_, _≤_, _<_}
 use mathlib.Core.Path.{_≡_, refl, sym, ap, subst, _∙_}
 use mathlib.Core.Bool.{Bool, true, false, cond}
 use mathlib.Core.List.{List, [], _∷_}
@@ -14,9 +14,9 @@ use Rattle.obligations.specs.Sets.{single}
 use Rattle.obligations.specs.State.{nothing, added, after}
 use Rattle.obligations.specs.Sequence.{Binding, words, at, completes}
 use Rattle.obligations.proofs.BoolLaws.{and-both}
-use Rattle.obligations.proofs.SetLaws.{lt-or-le}
+use Rattle.obligations.proofs.SetLaws.{single-lt, lt-or-le}
 use Rattle.obligations.proofs.StateLaws.{possible-none, taken-none, added-none, handed-possible, handed-taken, nothing-zero}
-use Rattle.obligations.proofs.SequenceLaws.{bindings-words, length-words, held-at}
+use Rattle.obligations.proofs.SequenceLaws.{bindings-words, words-cons, length-words, held-at, after-is, completes-nil, completes-cons}
 use Rattle.obligations.specs.Trace.{shaped}
 use Rattle.obligations.proofs.TraceLaws.{shaped-ext}
 use Rattle.net.specs.Refusals.{accepted, full-side}
@@ -25,6 +25,7 @@ use Rattle.net.specs.declared.Net.{Net}
 use Rattle.net.specs.Chains.{unless}
 use Rattle.sequences.specs.Gain.{gained, fits}
 use Rattle.sequences.specs.Learn.{newSets}
+use Rattle.sequences.specs.Statements.{Words}
 use Rattle.sequences.specs.Follow.{followedFrom, followed, followPositions, followSays, followGives, FollowDone}
 use Rattle.sequences.specs.Inner.{Positions, TracePositions, limitsMeans, TraceLimitsOf, GainDone, RefusedWith, nextSet, TraceDone}
 use Rattle.sequences.specs.declared.Limited.{Limited}
@@ -70,8 +71,7 @@ followed-activity x (a ∷ b ∷ t) (suc i) h = followed-activity (single a) (b 
 pub write-step : (buf : List ℕ) (place x : ℕ) (t : List ℕ) (i : ℕ) → i < length t
     → sets buf place (words (followedFrom x (drop i t)))
     ≡ sets (lib.ListN.set (lib.ListN.set (lib.ListN.set buf place (getD t i 0)) (place + 1) x) (place + 2) (nextSet t i)) (place + 3) (words (followedFrom (single (getD t i 0)) (drop (i + 1) t)))
-unfolding words
-write-step buf place x t i h = rw (followed-step x t i h, add-one place, add-two place, add-three place)
+write-step buf place x t i h = rw (followed-step x t i h, words-cons, add-one place, add-two place, add-three place)
 
 -- the front of the buffer holds the sequence's words
 pub front-words : (buf : List ℕ) (s : List Binding) (n : ℕ) → length s ≡ n → 3 * n ≤ length buf → take (3 * n) (sets buf 0 (words s)) ≡ words s
@@ -99,15 +99,15 @@ Below [] = Unit {0}
 Below (a ∷ t) = (a < 32) × Below t
 
 handed : (a b : ℕ) (t : List ℕ) → a < 32 → b < 32 → Below t → completes (added nothing a (single b)) (followedFrom (single a) (b ∷ t)) ≡ true
-unfolding completes followedFrom Below after
-handed a b [] ha hb w = and-both (handed-possible nothing a b refl ha hb) (rw (handed-taken nothing a b ha hb, added-none nothing b) nothing-zero)
-handed a b (c ∷ t) ha hb w = and-both (handed-possible nothing a b refl ha hb) (rw (handed-taken nothing a b ha hb) (handed b c t hb (w .0) (w .1)))
+unfolding followedFrom Below
+handed a b [] ha hb w = rw (completes-cons, completes-nil, after-is) (and-both (handed-possible nothing a b refl ha hb) (rw (handed-taken nothing a b ha hb, added-none nothing b) nothing-zero))
+handed a b (c ∷ t) ha hb w = rw (completes-cons, after-is) (and-both (handed-possible nothing a b refl ha hb) (rw (handed-taken nothing a b ha hb) (handed b c t hb (w .0) (w .1))))
 
 from-first : (t : List ℕ) → Below t → 0 < length t → completes nothing (followedFrom 0 t) ≡ true
-unfolding completes followedFrom Below after
+unfolding followedFrom Below
 from-first [] w h = absurd (omega arith)
-from-first (a ∷ []) w h = and-both (possible-none nothing a) (rw (taken-none nothing a, added-none nothing a) nothing-zero)
-from-first (a ∷ b ∷ t) w h = and-both (possible-none nothing a) (rw (taken-none nothing a) (handed a b t (w .0) (w .1 .0) (w .1 .1)))
+from-first (a ∷ []) w h = rw (completes-cons, completes-nil, after-is) (and-both (possible-none nothing a) (rw (taken-none nothing a, added-none nothing a) nothing-zero))
+from-first (a ∷ b ∷ t) w h = rw (completes-cons, after-is) (and-both (possible-none nothing a) (rw (taken-none nothing a) (handed a b t (w .0) (w .1 .0) (w .1 .1))))
 
 below-all : (t : List ℕ) → ((i : ℕ) → i < length t → getD t i 0 < 32) → Below t
 unfolding Below
@@ -153,3 +153,17 @@ module _ (net : Net) (t : List ℕ) {r : LearnResult} where
     follow-done n e w =
         let q = sym (d .says (followPositions net t)) ∙ ap (λ (k : Limited). limitsMeans k (followPositions net t)) e in
         record { says = rw (o, q) (w .says); gives = rw (o, q) (w .gives) }
+
+-- ---- where each word of a trace has 32 bits, each word of its sequence has
+
+pub words-followed : (x : ℕ) (trace : List ℕ) → x < 2 ^ 32 → Words trace → Words (words (followedFrom x trace))
+unfolding followedFrom words
+words-followed x [] h w i = omega arith
+words-followed x (a ∷ []) h w zero = w 0
+words-followed x (a ∷ []) h w (suc zero) = h
+words-followed x (a ∷ []) h w (suc (suc zero)) = omega arith
+words-followed x (a ∷ []) h w (suc (suc (suc i))) = omega arith
+words-followed x (a ∷ b ∷ trace) h w zero = w 0
+words-followed x (a ∷ b ∷ trace) h w (suc zero) = h
+words-followed x (a ∷ b ∷ trace) h w (suc (suc zero)) = single-lt b
+words-followed x (a ∷ b ∷ trace) h w (suc (suc (suc i))) = words-followed (single a) (b ∷ trace) (single-lt a) (λ j. w (suc j)) i

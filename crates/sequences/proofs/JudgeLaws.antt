@@ -16,11 +16,11 @@ use Rattle.obligations.specs.Trace.{shaped}
 use Rattle.obligations.specs.Sequence.{Binding, bindings, at, run, firstImpossible}
 use Rattle.obligations.proofs.StateLaws.{after-state, nothing-state, nothing-zero}
 use Rattle.obligations.proofs.TotalLaws.{after-total, zero-total}
-use Rattle.obligations.proofs.SequenceLaws.{fired, EachFrom, each-possible-from}
+use Rattle.obligations.proofs.SequenceLaws.{fired, EachFrom, each-first, each-rest, each-possible-from}
 use Rattle.net.specs.Refusals.{refused}
 use Rattle.net.specs.Orderly.{orderly}
 use Rattle.net.specs.declared.Net.{Net}
-use Rattle.walks.specs.Check.{lost, lowestMember, onWalks}
+use Rattle.walks.specs.Check.{lost, lowestMember}
 use Rattle.sequences.specs.Run.{largestTotal, outputSizes, ran}
 use Rattle.sequences.specs.Judge.{firstMissing, runSays, judgePositions, judgeSays, PeakOf, JudgeDone}
 use Rattle.sequences.specs.Inner.{limitsMeans, LimitsOf, RunJudged, PositionsJudged}
@@ -69,11 +69,11 @@ module _ (masks lengths : List ℕ) (a set j : ℕ) (s : Sides masks lengths) (h
 
 -- the total never exceeds what was added so far
 totals-bounded : (d : List ℕ) (s : List Binding) (n : ℕ) → State n d → Activities s → EachFrom d s → largestTotal d s ≤ total d + outputSizes s
-unfolding largestTotal outputSizes run
+unfolding largestTotal outputSizes
 totals-bounded d [] n k a e = omega arith
 totals-bounded d (b ∷ s) n k a e =
-    let next = after-total d (b .activity) (b .input) (b .output) (k .long) (a 0 (omega arith)) (e 0 (omega arith)) in
-    let rest = totals-bounded (fired d b) s (n + 1) (after-state n d (b .activity) (b .input) (b .output) k) (λ i l. a (suc i) (omega arith)) (λ i l. e (suc i) (omega arith)) in
+    let next = after-total d (b .activity) (b .input) (b .output) (k .long) (a 0 (omega arith)) (each-first d b s e) in
+    let rest = totals-bounded (fired d b) s (n + 1) (after-state n d (b .activity) (b .input) (b .output) k) (λ i l. a (suc i) (omega arith)) (each-rest d b s e) in
     omega (arith, next, rest)
 
 pub peak-bounded : (s : List Binding) → Activities s → EachFrom nothing s → largestTotal nothing s ≤ outputSizes s

@@ -16,7 +16,7 @@ use Rattle.obligations.specs.Sequence.{Binding, bindings, ψ, NothingLeft, poss
 use Rattle.obligations.proofs.BoolLaws.{and-left, and-right, and-both, false-not-true}
 use Rattle.obligations.proofs.SetLaws.{lt-or-le}
 use Rattle.obligations.proofs.TraceLaws.{shaped-facts, activities-below, shaped-ext}
-use Rattle.obligations.proofs.SequenceLaws.{possible-at, zero-left, length-bindings}
+use Rattle.obligations.proofs.SequenceLaws.{possible-at, impossible-tests, zero-left, length-bindings}
 use Rattle.net.specs.Refusals.{Says, accepted, refused, outside-limits, missing-set, wrongly-empty, not-possible, left-over, full-side}
 use Rattle.net.specs.Sentences.{Sentence, first, AsListed}
 use Rattle.net.specs.Chains.{unless, noneAt}
@@ -24,9 +24,8 @@ use Rattle.net.specs.Orderly.{orderly}
 use Rattle.net.specs.Traces.{activityIn, traceWithin, noActivityIn}
 use Rattle.net.specs.declared.Net.{Net}
 use Rattle.net.specs.declared.Side.the-variants.{Input, Output}
-use Rattle.net.proofs.SentenceLaws.{ascends, Told, told-end, whole-link, chain-listed}
+use Rattle.net.proofs.SentenceLaws.{Told, told-end, whole-link, chain-listed}
 use Rattle.net.proofs.CommonLaws.{orderly-link, failing-link, activities-link, shape-link}
-use Rattle.walks.specs.Check.{onWalks}
 use Rattle.walks.proofs.CheckLaws.{walks-link}
 use Rattle.sequences.specs.Limits.{activityOf, notSequence, longTrace, wordsWithin, withinLimits, traceWithinLimits}
 use Rattle.sequences.specs.Run.{Impossible, notPossible, leftOver}
@@ -63,10 +62,10 @@ module _ (value : Says) (ss : List Sentence) (rest : Says) where
   words-link ws next = whole-link refused value outside-limits _ ss (wordsWithin ws) rest (words-none ws) (words-some ws) next
 
   possible-link : (s : List Binding) → (firstImpossible s ≡ 0 → Told refused ss value rest) → Told refused (notPossible s ∷ ss) value (noneAt (firstImpossible s) not-possible rest)
-  unfolding firstImpossible
   possible-link s next =
-      failing-link refused value ss rest not-possible (length s) (possibleAt s) (Impossible s)
-      (λ i l t b. b (possible-at s i .0 t)) (λ i l t w. false-not-true t (possible-at s i .1 w)) next
+      rw (impossible-tests s)
+      (failing-link refused value ss rest not-possible (length s) (possibleAt s) (Impossible s)
+      (λ i l t b. b (possible-at s i .0 t)) (λ i l t w. false-not-true t (possible-at s i .1 w)) (λ e. next (impossible-tests s ∙ e)))
 
   left-link : (s : List Binding) → (allZero (ψ s) ≡ true → Told refused ss value rest) → Told refused (leftOver s ∷ ss) value (unless (allZero (ψ s)) left-over rest)
   left-link s next =

@@ -20,7 +20,7 @@ use Rattle.obligations.proofs.StateLaws.{nothing-zero, state-le}
 use Rattle.obligations.proofs.TotalLaws.{after-total, taken-total, total-zero, zero-total}
 use Rattle.obligations.proofs.PositionLaws.{AllPass}
 use Rattle.obligations.proofs.TraceLaws.{pass-more}
-use Rattle.obligations.proofs.SequenceLaws.{fired, ψ-next, ψ-state, pass-impossible, fails-impossible}
+use Rattle.obligations.proofs.SequenceLaws.{fired, ψ-none, ψ-next, ψ-state, possible-test, pass-impossible, fails-impossible}
 use Rattle.obligations.proofs.BoolLaws.{true-or-false}
 use Rattle.sequences.proofs.WordLaws.{positions-many, activity-here, input-here, output-here, activity-below}
 use Rattle.sequences.specs.Run.{largestTotal, ran}
@@ -94,11 +94,10 @@ module _ (ws : List ℕ) (n : ℕ) (p : Positions ws n) where
   many = positions-many ws n p
 
   pub running-start : Running ws n 0 0 nothing 0 0
-  unfolding run
   running-start = record {
     inside = omega arith;
     placed = refl;
-    state = refl;
+    state = sym ψ-none;
     counted = sym (zero-total nothing nothing-zero);
     bounded = omega arith;
     each-possible = λ i l. absurd (omega arith);
@@ -144,8 +143,7 @@ module _ (ws : List ℕ) (n : ℕ) (p : Positions ws n) where
       below = activity-below ws n p i place h (r .placed)
 
       possible-here : possibleAt (bindings ws) i ≡ possible due (getD ws place 0) (getD ws (place + 1) 0)
-      unfolding possibleAt
-      possible-here = rw (r .state, activity, input)
+      possible-here = possible-test (bindings ws) i ∙ rw (r .state, activity, input)
 
       pub running-impossible : possible due (getD ws place 0) (getD ws (place + 1) 0) ≡ false → ran (bindings ws) ≡ Impossible (i + 1)
       running-impossible f =

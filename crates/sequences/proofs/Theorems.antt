@@ -19,7 +19,7 @@ use Rattle.net.proofs.ChainLaws.{unless-passes, none-passes}
 use Rattle.sequences.specs.Limits.{wordsWithin, withinLimits}
 use Rattle.sequences.specs.Gain.{gained, fits}
 use Rattle.sequences.specs.Learn.{learnRefusals, firstWronglyEmpty, newSets, learnPositions, learnSays, learnGives}
-use Rattle.sequences.specs.Follow.{followGives}
+use Rattle.sequences.specs.Follow.{followed, followSays, followGives}
 use Rattle.sequences.specs.Judge.{judgeRefusals}
 use Rattle.sequences.specs.Statements.{LearnListed, FollowListed, JudgeListed, NoneHoldsLearnable, LearnAccepts, LearnHolds, LearnValid, RefusedSame, FollowLearns, NoneHoldsJudgeable, JudgeAccepts}
 use Rattle.sequences.proofs.AcceptLaws.{accepted-learnable, learnable-accepted}
@@ -78,15 +78,20 @@ accepted-parts net ws e =
     let c₁₂ = unless-passes (fits net s) 12 _ .0 (c₁₁ .1) in
     record { net-orderly = c₂ .0; activities-only = activities-below (length s) (λ i. at s i .activity) (c₄ .0); fitting = c₁₂ .0 }
 
-pub accepted-gives : (net : Net) (ws : List ℕ) → learnSays net ws .ok ≡ true → learnGives net ws ≡ gained net (bindings ws)
+-- what they give where they accept
+pub learn-gives : (net : Net) (ws : List ℕ) (new : ℕ) → learnSays net ws ≡ accepted new → learnGives net ws ≡ gained net (bindings ws)
 unfolding learnGives
-accepted-gives net ws e = rw e
+learn-gives net ws new e = rw (ap (λ (s : Says). s .ok) e)
+
+pub follow-gives : (net : Net) (trace : List ℕ) (new : ℕ) → followSays net trace ≡ accepted new → followGives net trace ≡ gained net (followed trace)
+unfolding followGives
+follow-gives net trace new e = rw (ap (λ (s : Says). s .ok) e)
 
 pub learn-holds : LearnHolds
 learn-holds net ws new said =
     let e = ap (λ (s : Says). s .ok) said in
     let p = accepted-parts net ws e in
-    let g = accepted-gives net ws e in
+    let g = learn-gives net ws new said in
     let c = gained-contained net (bindings ws) (p .net-orderly) (p .activities-only) in
     record {
       same-start = ap (λ (n : Net). n .start) g ∙ sym (c .same-start);
@@ -102,7 +107,7 @@ learn-valid net ws new said =
     let p = accepted-parts net ws e in
     let k = gained-contained net s (p .net-orderly) (p .activities-only) in
     let f = accepted-learnable net ws e .well-formed in
-    rw (accepted-gives net ws e)
+    rw (learn-gives net ws new said)
     (record {
       well-formed = subst (λ (b : ℕ). WellFormed (gained net s .start) b s) (k .same-end) (subst (λ (a : ℕ). WellFormed a (net .end) s) (k .same-start) f);
       inputs-on-side = λ i l. gained-on-side net s (p .net-orderly) (p .activities-only) (p .fitting) Input (at s i .activity) (at s i .input) .1 (inr (record { position = i; inside = l; activity-is = refl; set-is = refl }));

@@ -22,7 +22,6 @@ use Rattle.net.specs.declared.Side.the-variants.{Input, Output}
 use Rattle.net.proofs.ListLaws.{listed-one}
 use Rattle.net.proofs.OrderlyLaws.{orderly-facts, facts-orderly}
 use Rattle.net.proofs.ChainLaws.{unless-passes, none-passes}
-use Rattle.walks.specs.Check.{onWalks}
 use Rattle.walks.proofs.CheckLaws.{none-lost-passes, passes-none-lost, walks-pass}
 use Rattle.sequences.specs.Limits.{wordsWithin, withinLimits}
 use Rattle.sequences.specs.Judge.{onSideAt, firstMissing, runSays, judgePositions, judgeSays}

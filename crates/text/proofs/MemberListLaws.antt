@@ -19,7 +19,7 @@ use Rattle.obligations.proofs.SetLaws.{single-lt, union-lt, member-none, member
 use Rattle.obligations.proofs.MemberLaws.{members-walk, members-are}
 use Rattle.text.specs.Bytes.{before, count}
 use Rattle.text.specs.Fields.{space, split, led, join}
-use Rattle.text.specs.Decimal.{value, isNumber, parseNumber, allNumbers, values, printNumber}
+use Rattle.text.specs.Decimal.{isEmpty, value, isNumber, parseNumber, allNumbers, values, printNumber}
 use Rattle.text.specs.Members.{highest, ascendsFrom, withAll, areMembers, parseMembers, printMembers}
 use Rattle.text.specs.declared.decimal.Number.the-variants as number
 use Rattle.text.specs.declared.members.Members.{Members}
@@ -231,3 +231,9 @@ members-printed s m q =
 -- a text is read as a set exactly if it is the set's printed list and the set isn't empty
 pub parse-members-exactly : (s : List ℕ) (m : ℕ) → (parseMembers s ≡ Set m) ↔ ((s ≡ printMembers m) × (0 < m) × (m < 2 ^ 32))
 parse-members-exactly s m = ((λ q. let f = parse-members-mask s m q in (members-printed s m q, f .0, f .1)), (λ w. ap parseMembers (w .0) ∙ parse-print-members m (w .1) (w .2)))
+
+-- a member list isn't empty
+pub members-filled : (s : List ℕ) (m : ℕ) → parseMembers s ≡ Set m → isEmpty s ≡ false
+unfolding parseMembers areMembers isNumber
+members-filled [] m h = let z : _≡_ {A = ℕ} 0 1 = cc in absurd (omega arith)
+members-filled (b ∷ s) m h = refl

@@ -1,11 +1,9 @@
 -- The tests of names and arcs are the facts: a test over a list of sets passes exactly if one of them is as asked. Assumes nothing.
 use Prim.Native.Nat.{ℕ}
-use mathlib.Core.Path.{_≡_, refl, sym, subst}
+use mathlib.Core.Path.{_≡_, refl, subst}
 use mathlib.Core.Logic.{_↔_, ⊎-elim}
 use mathlib.Core.Bool.{true}
 use mathlib.Core.List.{List, [], _∷_}
-use borrow.Author.Tests.{eq-eqb, eqb-true}
-use lib.Dec.{eqb}
 use Rattle.obligations.specs.Sets.{member}
 use Rattle.obligations.proofs.BoolLaws.{false-not-true, and-left, and-right, and-both, or-left, or-right, or-cases}
 use Rattle.net.specs.Lists.{listed}
@@ -13,21 +11,22 @@ use Rattle.net.specs.Sides.{setsOn}
 use Rattle.net.specs.declared.Net.{Net}
 use Rattle.net.specs.declared.Side.{Side}
 use Rattle.net.specs.declared.Side.the-variants.{Input, Output}
+use Rattle.net.proofs.ListLaws.{none-listed, listed-first, listed-later, head-or-later}
 use Rattle.walks.specs.Arcs.{Names, Arc, named, names, arc}
 
 named-listed : (l : List ℕ) (k : ℕ) → named l k ≡ true → (m : ℕ) × (listed m l ≡ true) × (member m k ≡ true)
-unfolding named listed
+unfolding named
 named-listed [] k e = absurd (false-not-true refl e)
 named-listed (x ∷ xs) k e =
-    ⊎-elim (λ h. (x, or-left (listed x xs) (eq-eqb x x refl), h)) (λ h. let w = named-listed xs k h in (w .0, or-right (eqb x (w .0)) (w .1), w .2))
+    ⊎-elim (λ h. (x, listed-first x xs, h)) (λ h. let w = named-listed xs k h in (w .0, listed-later (w .0) x xs (w .1), w .2))
     (or-cases (member x k) (named xs k) e)
 
 listed-named : (l : List ℕ) (m k : ℕ) → listed m l ≡ true → member m k ≡ true → named l k ≡ true
-unfolding named listed
-listed-named [] m k h e = absurd (false-not-true refl h)
+unfolding named
+listed-named [] m k h e = absurd (false-not-true (none-listed m) h)
 listed-named (x ∷ xs) m k h e =
-    ⊎-elim (λ q. or-left (named xs k) (subst (λ (s : ℕ). member s k ≡ true) (sym (eqb-true x m q)) e)) (λ t. or-right (member x k) (listed-named xs m k t e))
-    (or-cases (eqb x m) (listed m xs) h)
+    ⊎-elim (λ t. or-right (member x k) (listed-named xs m k t e)) (λ q. or-left (named xs k) (subst (λ (s : ℕ). member s k ≡ true) q e))
+    (head-or-later m x xs h)
 
 pub names-facts : (net : Net) (side : Side) (a k : ℕ) → (names net side a k ≡ true) ↔ Names net side a k
 unfolding names

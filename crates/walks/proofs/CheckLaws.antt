@@ -20,7 +20,7 @@ use Rattle.net.specs.Sentences.{Sentence, Lowest, AsListed}
 use Rattle.net.specs.Orderly.{orderly}
 use Rattle.net.specs.declared.Net.{Net}
 use Rattle.net.proofs.OrderlyLaws.{orderly-facts, on-side-activity}
-use Rattle.net.proofs.SentenceLaws.{ascends, Told, told-end, told-link, chain-listed}
+use Rattle.net.proofs.SentenceLaws.{Told, told-end, told-link, chain-listed}
 use Rattle.net.proofs.CommonLaws.{orderly-link}
 use Rattle.net.proofs.ChainLaws.{unless-at-passes, unless-passes}
 use Rattle.walks.specs.Arcs.{arcs}

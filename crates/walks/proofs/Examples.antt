@@ -15,7 +15,7 @@ use Rattle.net.specs.declared.Side.the-variants.{Input, Output}
 use Rattle.walks.specs.Below.{anyBelow, sumBelow, withIf, thoseBelow, those}
 use Rattle.walks.specs.Arcs.{named, names, arc, arcs}
 use Rattle.walks.specs.Rows.{rowsFrom, rows, unionFrom, grown, rounds, reach}
-use Rattle.walks.specs.Check.{onSides, inNet, successors, predecessors, outside, lost, lowestMember, onWalks, checkSays, checkMeans}
+use Rattle.walks.specs.Check.{onSides, inNet, successors, predecessors, outside, lost, lowestMember, checkSays, checkMeans}
 use Rattle.walks.specs.declared.CheckAnswer.the-variants.{Passed, Refused}
 
 -- a net with sets put on one side

@@ -1,10 +1,9 @@
 -- What the check computes of an orderly net is what the facts say: its rows are its arcs, reach along them is its walks, and the
 -- test of its activities is right. An arc joins activities, since a number above 31 has no sets. Assumes nothing.
 use Prim.Native.Nat.{ℕ, _<_}
-use mathlib.Core.Path.{_≡_, refl, sym, _∙_}
+use mathlib.Core.Path.{_≡_, sym, _∙_}
 use mathlib.Core.Logic.{_↔_, ⊎-elim}
 use mathlib.Core.Bool.{true, false, not, _&&_, _||_}
-use mathlib.Core.List.{List, [], _∷_}
 use native.Mathlib.Omega.{arith}
 use borrow.Author.Tests.{eq-eqb, eqb-true, eqb-false, not-true}
 use lib.Dec.{eqb}
@@ -25,21 +24,12 @@ use Rattle.walks.specs.Walk.{Walk, InNet, the-start, the-end, with-a-set
 use Rattle.walks.specs.Rows.{Has, reach}
 use Rattle.walks.specs.Check.{onSides, inNet, successors, predecessors}
 use Rattle.walks.proofs.BelowLaws.{any-true, true-any}
+use Rattle.net.proofs.ListLaws.{some-listed, empty-lists-none}
 use Rattle.walks.proofs.AlongLaws.{along-map, along-back}
 use Rattle.walks.proofs.RowLaws.{rows-past, has-those}
 use Rattle.walks.proofs.ReachLaws.{reach-is}
 use Rattle.walks.proofs.LinkLaws.{successors-small, predecessors-small}
 use Rattle.walks.proofs.ArcLaws.{names-facts, arc-facts}
-
-some-listed : (l : List ℕ) → 0 < length l → (m : ℕ) × (listed m l ≡ true)
-unfolding listed
-some-listed [] h = absurd (omega arith)
-some-listed (x ∷ xs) h = (x, or-left (listed x xs) (eq-eqb x x refl))
-
-none-listed : (l : List ℕ) (m : ℕ) → length l ≡ 0 → listed m l ≡ false
-unfolding listed
-none-listed [] m e = refl
-none-listed (x ∷ xs) m e = absurd (omega arith)
 
 module _ (net : Net) (o : orderly net ≡ true) where
   -- ---- arcs
@@ -95,7 +85,7 @@ module _ (net : Net) (o : orderly net ≡ true) where
   set-has : (side : Side) (a m : ℕ) → OnSide net side a m → not (eqb (getD (lengthsOf net side) a 0) 0) ≡ true
   set-has side a m h =
       ⊎-elim
-      (λ e. absurd (false-not-true (none-listed (setsOn net side a) m (sets-length net o side a (on-side-activity net o side a m h) ∙ eqb-true (getD (lengthsOf net side) a 0) 0 e)) h))
+      (λ e. absurd (false-not-true (empty-lists-none (setsOn net side a) m (sets-length net o side a (on-side-activity net o side a m h) ∙ eqb-true (getD (lengthsOf net side) a 0) 0 e)) h))
       (λ e. rw e) (true-or-false (eqb (getD (lengthsOf net side) a 0) 0))
 
   sides-in : (side : Side) (a : ℕ) → a < 32 → onSides net side a ≡ true → InNet net a

@@ -6,7 +6,7 @@ use mathlib.Core.Bool.{true}
 use mathlib.Core.Path.{_≡_, sym, _∙_}
 use native.Mathlib.Omega.{arith}
 use Rattle.net.specs.Orderly.{orderly}
-use Rattle.walks.specs.Check.{lost, onWalks, checkSays}
+use Rattle.walks.specs.Check.{lost, checkSays}
 use Rattle.walks.proofs.LinkLaws.{lost-lt}
 use Rattle.walks.proofs.CheckLaws.{lowest-is}
 use Rattle.walks.proofs.check.Statement.{statement}

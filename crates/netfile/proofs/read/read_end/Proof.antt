@@ -9,7 +9,8 @@ use Rattle.net.specs.Orderly.{endsOk}
 use Rattle.net.proofs.OrderlyLaws.{facts-ends}
 use Rattle.net.proofs.FreshLaws.{fresh-gives-orderly}
 use Rattle.netfile.proofs.LineReadLaws.{end-is}
-use Rattle.netfile.proofs.FileLaws.{end-line, fresh-made}
+use Rattle.net.proofs.FreshLaws.{fresh-given}
+use Rattle.netfile.proofs.FileLaws.{end-line}
 use Rattle.netfile.proofs.read.read_end.Statement.{statement}
 use Rattle.netfile.proofs.read.read_end.Tie as tie
 
@@ -57,7 +58,7 @@ returns-2 c =
     let end = c .before .before .before .before .before .line .given in
     let e : endsOk (a .start) (end .0 .0) ≡ true = facts-ends (a .start) (end .0 .0) (search needs) (end-is _ _ _ (sym (c .before .before .before .before .before .before .before .end-line .ensures) ∙ end .1) .is-activity) (c .before .before .before .if1 .left) in
     rw (end-line (now (a .text)) (a .i) (f .result) (g .result) (f .ensures .exact) (g .ensures) (search needs) (a .start), sym (c .before .before .before .before .before .before .before .end-line .ensures) ∙ end .1, ne-eqb _ _ (c .before .before .before .if1 .left))
-    (rw (c .before .before .fresh .ensures .gives ∙ fresh-made (a .start) (end .0 .0) e) at (c .read-rows .ensures))
+    (rw (c .before .before .fresh .ensures .gives ∙ fresh-given (a .start) (end .0 .0) e) at (c .read-rows .ensures))
 
 returns-3 : tie.Need-returns-3
 returns-3 c =

@@ -1,8 +1,7 @@
 -- `refused` meets its contract: 0 and 1 are ends that fresh accepts. Assumes nothing.
-use mathlib.Core.Path.{refl}
+use mathlib.Core.Path.{refl, _∙_}
 use borrow.Author.Needs.{needs}
-use Rattle.net.specs.Orderly.{endsOk}
-use Rattle.net.specs.Fresh.{freshGives}
+use Rattle.net.proofs.FreshLaws.{fresh-given, zero-one}
 use Rattle.netfile.proofs.read.refused.Statement.{statement}
 use Rattle.netfile.proofs.read.refused.Tie as tie
 
@@ -10,8 +9,7 @@ fresh-requires : tie.Need-fresh-requires
 fresh-requires c κs = search needs
 
 returns : tie.Need-returns
-unfolding freshGives endsOk
-returns c = record { says = refl; gives = c .before .fresh .ensures .gives }
+returns c = record { says = refl; gives = c .before .fresh .ensures .gives ∙ fresh-given 0 1 zero-one }
 
 pub refused-spec : {M : Type 1} → statement M
 refused-spec = tie.close (tie.spec fresh-requires returns)

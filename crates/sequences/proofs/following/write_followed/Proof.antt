@@ -6,6 +6,7 @@ use borrow.Author.Needs.{needs}
 use lib.ListN.{drop, drop-of-length-le}
 use lib.Seq.{sets}
 use Rattle.obligations.specs.Sequence.{words}
+use Rattle.obligations.proofs.SequenceLaws.{words-nil}
 use Rattle.sequences.specs.Follow.{followedFrom, followed}
 use Rattle.sequences.proofs.FollowLaws.{write-step}
 use Rattle.sequences.proofs.following.write_followed.Statement.{statement}
@@ -75,12 +76,12 @@ loop-again c =
     (omega arith, omega arith, rw (c .before .next-set .ensures, c .single .ensures) (sym step ∙ l .inv .2))
 
 returns : tie.Need-returns Inv-loop μ-loop
-unfolding words followedFrom
+unfolding followedFrom
 returns c =
     let g = c .before .before .before in
     let l = c .before .loop in
     let e = drop-of-length-le (g .args .trace .now) {i = l .i} (omega (arith, g .pre .whole, c .loop-test .left)) in
-    rw e at (l .inv .2)
+    rw (e, words-nil) at (l .inv .2)
 
 pub write-followed-spec : {M : Type 1} → statement M
 write-followed-spec =
