@@ -128,7 +128,7 @@ rows-are-rows n net (l ∷ ls) h line i =
 -- ---- the lines before the rows
 
 -- the parts of a text that is accepted
-pub record Accepted (text : List ℕ) : Type 0 where
+pub record FileParts (text : List ℕ) : Type 0 where
   pub start : ℕ
   pub end : ℕ
   pub start-line : List ℕ
@@ -141,7 +141,7 @@ pub record Accepted (text : List ℕ) : Type 0 where
   pub is-rows : readNet text ≡ readRows 4 (freshNet start end) rows
   pub fine : readRows 4 (freshNet start end) rows .says .ok ≡ true
 
-pub accepted-parts : (text : List ℕ) → readNet text .says .ok ≡ true → Accepted text
+pub accepted-parts : (text : List ℕ) → readNet text .says .ok ≡ true → FileParts text
 unfolding readNet fromHeader fromStart fromEnd
 accepted-parts text h = size (leb (length text) netBytes) refl
   where
@@ -149,7 +149,7 @@ accepted-parts text h = size (leb (length text) netBytes) refl
     never n p e = false-not-true (ap (λ (r : Reading). r .says .ok) e) h
 
     ends : (start end : ℕ) (s e : List ℕ) (rs : List (List ℕ)) → readEnd startWord s ≡ Activity start → readEnd endWord e ≡ Activity end → lines text ≡ netHeader ∷ s ∷ e ∷ rs
-        → (t : Bool) (k n : ℕ) → eqb start end ≡ t → readNet text ≡ cond t (refusedAt k n) (readRows 4 (freshNet start end) rs) → Accepted text
+        → (t : Bool) (k n : ℕ) → eqb start end ≡ t → readNet text ≡ cond t (refusedAt k n) (readRows 4 (freshNet start end) rs) → FileParts text
     ends start end s e rs p q ls true k n d u = absurd (never k n u)
     ends start end s e rs p q ls false k n d u = record {
       start = start;
@@ -166,31 +166,31 @@ accepted-parts text h = size (leb (length text) netBytes) refl
     }
 
     third : (start : ℕ) (s e : List ℕ) (rs : List (List ℕ)) → readEnd startWord s ≡ Activity start → lines text ≡ netHeader ∷ s ∷ e ∷ rs
-        → (r : EndLine) → readEnd endWord e ≡ r → readNet text ≡ afterEnd start r rs → Accepted text
+        → (r : EndLine) → readEnd endWord e ≡ r → readNet text ≡ afterEnd start r rs → FileParts text
     third start s e rs p ls (Activity end) q u = ends start end s e rs p q ls (eqb start end) _ _ refl u
     third start s e rs p ls (Refused k) q u = absurd (never k 3 u)
 
-    from-third : (start : ℕ) (s : List ℕ) (rs : List (List ℕ)) → readEnd startWord s ≡ Activity start → lines text ≡ netHeader ∷ s ∷ rs → readNet text ≡ fromEnd start rs → Accepted text
+    from-third : (start : ℕ) (s : List ℕ) (rs : List (List ℕ)) → readEnd startWord s ≡ Activity start → lines text ≡ netHeader ∷ s ∷ rs → readNet text ≡ fromEnd start rs → FileParts text
     from-third start s [] p ls u = absurd (never line-form 3 u)
     from-third start s (e ∷ rs) p ls u = third start s e rs p ls (readEnd endWord e) refl u
 
-    second : (s : List ℕ) (rs : List (List ℕ)) → lines text ≡ netHeader ∷ s ∷ rs → (r : EndLine) → readEnd startWord s ≡ r → readNet text ≡ afterStart r rs → Accepted text
+    second : (s : List ℕ) (rs : List (List ℕ)) → lines text ≡ netHeader ∷ s ∷ rs → (r : EndLine) → readEnd startWord s ≡ r → readNet text ≡ afterStart r rs → FileParts text
     second s rs ls (Activity start) p u = from-third start s rs p ls u
     second s rs ls (Refused k) p u = absurd (never k 2 u)
 
-    from-second : (rs : List (List ℕ)) → lines text ≡ netHeader ∷ rs → readNet text ≡ fromStart rs → Accepted text
+    from-second : (rs : List (List ℕ)) → lines text ≡ netHeader ∷ rs → readNet text ≡ fromStart rs → FileParts text
     from-second [] ls u = absurd (never line-form 2 u)
     from-second (s ∷ rs) ls u = second s rs ls (readEnd startWord s) refl u
 
-    first : (l : List ℕ) (rs : List (List ℕ)) → lines text ≡ l ∷ rs → (t : Bool) → sameBytes l netHeader ≡ t → readNet text ≡ cond t (fromStart rs) (refusedAt line-form 1) → Accepted text
+    first : (l : List ℕ) (rs : List (List ℕ)) → lines text ≡ l ∷ rs → (t : Bool) → sameBytes l netHeader ≡ t → readNet text ≡ cond t (fromStart rs) (refusedAt line-form 1) → FileParts text
     first l rs ls true t u = from-second rs (ls ∙ ap (λ (k : List ℕ). k ∷ rs) (same-equal l netHeader t)) u
     first l rs ls false t u = absurd (never line-form 1 u)
 
-    from-first : (ls : List (List ℕ)) → lines text ≡ ls → readNet text ≡ fromHeader ls → Accepted text
+    from-first : (ls : List (List ℕ)) → lines text ≡ ls → readNet text ≡ fromHeader ls → FileParts text
     from-first [] ls u = absurd (never line-form 1 u)
     from-first (l ∷ rs) ls u = first l rs ls (sameBytes l netHeader) refl u
 
-    size : (t : Bool) → leb (length text) netBytes ≡ t → Accepted text
+    size : (t : Bool) → leb (length text) netBytes ≡ t → FileParts text
     size true e = from-first (lines text) refl (rw e)
     size false e = absurd (never outside-limits 0 (rw e))
 

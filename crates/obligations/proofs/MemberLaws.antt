@@ -191,6 +191,24 @@ members-are m k = (
 pub some-member : (m : ℕ) → 0 < m → m < 2 ^ 32 → (k : ℕ) × (member m k ≡ true)
 some-member m p h = (trailingZeros 32 m, members-are m (trailingZeros 32 m) .0 (rw (members-walk m p h) (List·Memᴰ·head refl)) .1)
 
+-- ---- what holds of a list that is made digit by digit
+
+-- n digits are left, and the lowest of them stands for k
+module _ (P : ℕ → ℕ → List ℕ → Type 0) (none : (k : ℕ) → P 0 k []) (clear : (n k : ℕ) (ks : List ℕ) → P n (suc k) ks → P (suc n) k ks)
+    (digit-set : (n k : ℕ) (ks : List ℕ) → P n (suc k) ks → P (suc n) k (k ∷ ks)) where
+  from-induct : (n k m : ℕ) → P n k (membersFrom n k m)
+  unfolding membersFrom keep
+  from-induct zero k m = none k
+  from-induct (suc n) k m = go (m % 2) (from-induct n (suc k) (m / 2))
+    where
+      go : (b : ℕ) → P n (suc k) (membersFrom n (suc k) (m / 2)) → P (suc n) k (keep b k (membersFrom n (suc k) (m / 2)))
+      go zero p = clear n k _ p
+      go (suc b) p = digit-set n k _ p
+
+  pub members-induct : (m : ℕ) → P 32 0 (members m)
+  unfolding members
+  members-induct m = from-induct 32 0 m
+
 -- ---- no member, and one
 
 from-none : (n k : ℕ) → membersFrom n k 0 ≡ []

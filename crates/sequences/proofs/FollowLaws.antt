@@ -16,7 +16,7 @@ use Rattle.obligations.specs.Sequence.{Binding, words, at, completes}
 use Rattle.obligations.proofs.BoolLaws.{and-both}
 use Rattle.obligations.proofs.SetLaws.{single-lt, lt-or-le}
 use Rattle.obligations.proofs.StateLaws.{possible-none, taken-none, added-none, handed-possible, handed-taken, nothing-zero}
-use Rattle.obligations.proofs.SequenceLaws.{bindings-words, words-cons, length-words, held-at, after-is, completes-nil, completes-cons}
+use Rattle.obligations.proofs.SequenceLaws.{bindings-words, words-nil, words-cons, length-words, held-at, after-is, completes-nil, completes-cons}
 use Rattle.obligations.specs.Trace.{shaped}
 use Rattle.obligations.proofs.TraceLaws.{shaped-ext}
 use Rattle.net.specs.Refusals.{accepted, full-side}
@@ -157,13 +157,13 @@ module _ (net : Net) (t : List ℕ) {r : LearnResult} where
 -- ---- where each word of a trace has 32 bits, each word of its sequence has
 
 pub words-followed : (x : ℕ) (trace : List ℕ) → x < 2 ^ 32 → Words trace → Words (words (followedFrom x trace))
-unfolding followedFrom words
-words-followed x [] h w i = omega arith
-words-followed x (a ∷ []) h w zero = w 0
-words-followed x (a ∷ []) h w (suc zero) = h
-words-followed x (a ∷ []) h w (suc (suc zero)) = omega arith
-words-followed x (a ∷ []) h w (suc (suc (suc i))) = omega arith
-words-followed x (a ∷ b ∷ trace) h w zero = w 0
-words-followed x (a ∷ b ∷ trace) h w (suc zero) = h
-words-followed x (a ∷ b ∷ trace) h w (suc (suc zero)) = single-lt b
-words-followed x (a ∷ b ∷ trace) h w (suc (suc (suc i))) = words-followed (single a) (b ∷ trace) (single-lt a) (λ j. w (suc j)) i
+unfolding followedFrom
+words-followed x [] h w i = rw words-nil (omega arith)
+words-followed x (a ∷ []) h w zero = rw words-cons (w 0)
+words-followed x (a ∷ []) h w (suc zero) = rw words-cons h
+words-followed x (a ∷ []) h w (suc (suc zero)) = rw words-cons (omega arith)
+words-followed x (a ∷ []) h w (suc (suc (suc i))) = rw (words-cons, words-nil) (omega arith)
+words-followed x (a ∷ b ∷ trace) h w zero = rw words-cons (w 0)
+words-followed x (a ∷ b ∷ trace) h w (suc zero) = rw words-cons h
+words-followed x (a ∷ b ∷ trace) h w (suc (suc zero)) = rw words-cons (single-lt b)
+words-followed x (a ∷ b ∷ trace) h w (suc (suc (suc i))) = rw words-cons (words-followed (single a) (b ∷ trace) (single-lt a) (λ j. w (suc j)) i)

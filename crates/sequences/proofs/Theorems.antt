@@ -59,12 +59,12 @@ none-holds-learnable net ws =
     )
 
 -- what an accepted learn shows of the net and the sequence
-pub record Accepted (net : Net) (ws : List ℕ) : Type 0 where
+pub record LearnedParts (net : Net) (ws : List ℕ) : Type 0 where
   pub net-orderly : orderly net ≡ true
   pub activities-only : Activities (bindings ws)
   pub fitting : fits net (bindings ws) ≡ true
 
-pub accepted-parts : (net : Net) (ws : List ℕ) → learnSays net ws .ok ≡ true → Accepted net ws
+pub accepted-parts : (net : Net) (ws : List ℕ) → learnSays net ws .ok ≡ true → LearnedParts net ws
 unfolding learnSays withinLimits learnPositions
 accepted-parts net ws e =
     let s = bindings ws in

@@ -1,7 +1,7 @@
 -- Laws of member lists. Reading goes field by field with the lowest member still allowed and the set so far; a set's
 -- members ascend and are activities, so that its printed list is read as the set. No other text is: its numbers are
 -- printed numbers, and numbers that ascend are listed in one way. Assumes nothing.
-use Prim.Native.Nat.{ℕ, zero, suc, _+_, _-_, _*_, _≤_, _<_, _^_, _%_, _/_}
+use Prim.Native.Nat.{ℕ, zero, suc, _+_, _-_, _*_, _≤_, _<_, _^_}
 use mathlib.Core.Path.{_≡_, refl, sym, ap, ap₂, _∙_}
 use mathlib.Core.Logic.{_↔_, _⊎_, inl, inr, ⊎-elim}
 use mathlib.Core.Bool.{Bool, true, false, _&&_, or-true, and-false, cond}
@@ -13,10 +13,10 @@ use lib.Count.{trailingZeros}
 use lib.Dec.{leb, eqb}
 use lib.ListN.{length, length-append}
 use lib.Seq.{slice}
-use Rattle.obligations.specs.Sets.{member, single, union, keep, membersFrom, members}
+use Rattle.obligations.specs.Sets.{member, single, union, members}
 use Rattle.obligations.proofs.BoolLaws.{false-not-true, and-left, and-right, same-test}
 use Rattle.obligations.proofs.SetLaws.{single-lt, union-lt, member-none, member-with, set-ext}
-use Rattle.obligations.proofs.MemberLaws.{members-walk, members-are}
+use Rattle.obligations.proofs.MemberLaws.{members-walk, members-are, members-induct}
 use Rattle.text.specs.Bytes.{before, count}
 use Rattle.text.specs.Fields.{space, split, led, join}
 use Rattle.text.specs.Decimal.{isEmpty, value, isNumber, parseNumber, allNumbers, values, printNumber}
@@ -68,39 +68,29 @@ module _ (s : List ℕ) (at e j low m : ℕ) (h : at ≤ e) (t : e ≤ length s)
 
 -- ---- how long a list is
 
--- a member and its space take at most 3 bytes
-led-short : (n k m : ℕ) → k + n ≤ 32 → length (led space (map printNumber (membersFrom n k m))) ≤ 3 * n
-unfolding membersFrom keep
-led-short zero k m h = omega arith
-led-short (suc n) k m h = go (m % 2) (led-short n (suc k) (m / 2) (omega arith))
-  where
-    go : (b : ℕ) → length (led space (map printNumber (membersFrom n (suc k) (m / 2)))) ≤ 3 * n → length (led space (map printNumber (keep b k (membersFrom n (suc k) (m / 2))))) ≤ 3 * suc n
-    go zero ih = omega arith
-    go (suc b) ih = omega (arith, length-append (printNumber k) (led space (map printNumber (membersFrom n (suc k) (m / 2)))), number-below-100 k (omega arith))
-
 join-short : (c : ℕ) (ps : List (List ℕ)) → length (join c ps) ≤ length (led c ps)
 join-short c [] = omega arith
 join-short c (p ∷ ps) = omega arith
 
+-- a member and its space take at most 3 bytes
+led-short : (m : ℕ) → length (led space (map printNumber (members m))) ≤ 96
+led-short m =
+    members-induct (λ n k ks. k + n ≤ 32 → length (led space (map printNumber ks)) ≤ 3 * n)
+    (λ k h. omega arith) (λ n k ks ih h. let l = ih (omega arith) in omega arith)
+    (λ n k ks ih h. let l = ih (omega arith) in omega (arith, length-append (printNumber k) (led space (map printNumber ks)), number-below-100 k (omega arith)))
+    m (omega arith)
+
 pub members-short : (m : ℕ) → length (printMembers m) ≤ 96
-unfolding printMembers members
-members-short m = omega (arith, join-short space (map printNumber (membersFrom 32 0 m)), led-short 32 0 m (omega arith))
+unfolding printMembers
+members-short m = omega (arith, join-short space (map printNumber (members m)), led-short m)
 
 -- ---- what was printed is read
 
 -- the members of a mask ascend
-from-ascend : (n k low m : ℕ) → low ≤ k → ascendsFrom low (membersFrom n k m) ≡ true
-unfolding membersFrom keep
-from-ascend zero k low m h = refl
-from-ascend (suc n) k low m h = go (m % 2) (λ lo g. from-ascend n (suc k) lo (m / 2) g)
-  where
-    go : (b : ℕ) → ((lo : ℕ) → lo ≤ suc k → ascendsFrom lo (membersFrom n (suc k) (m / 2)) ≡ true) → ascendsFrom low (keep b k (membersFrom n (suc k) (m / 2))) ≡ true
-    go zero ih = ih low (omega arith)
-    go (suc b) ih = rw (le-leb low k h) (ih (k + 1) (omega arith))
-
 members-ascend : (m : ℕ) → ascendsFrom 0 (members m) ≡ true
-unfolding members
-members-ascend m = from-ascend 32 0 0 m (omega arith)
+members-ascend m =
+    members-induct (λ n k ks. (low : ℕ) → low ≤ k → ascendsFrom low ks ≡ true)
+    (λ k low h. refl) (λ n k ks ih low h. ih low (omega arith)) (λ n k ks ih low h. rw (le-leb low k h) (ih (k + 1) (omega arith))) m 0 (omega arith)
 
 -- a set with members added has those that it had and those
 all-member : (m : ℕ) (ks : List ℕ) (j : ℕ) → ((k : ℕ) → List·Memᴰ k ks → k < 32) → member (withAll m ks) j ≡ true → (member m j ≡ true) ⊎ List·Memᴰ j ks
