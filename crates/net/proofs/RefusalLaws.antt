@@ -46,11 +46,13 @@ ends-some start end e = go (true-or-false (ltb start activities)) (true-or-false
     go (inl a) (inl b) (inl c) = inr (inr (eqb-true start end c))
     go (inl a) (inl b) (inr c) = absurd (false-not-true e (facts-ends start end (ltb-true start activities a) (ltb-true end activities b) (eqb-false start end c)))
 
-pub fresh-listed : (start end : ℕ) → AsListed refused (freshRefusals start end) (freshSays start end)
+pub fresh-told : (start end : ℕ) → Told refused (freshRefusals start end) (accepted 0) (freshSays start end)
 unfolding freshSays
-fresh-listed start end =
-    chain-listed (freshRefusals start end) refl 0
-    (whole-link refused (accepted 0) bad-ends (BadEnds start end) [] (endsOk start end) (accepted 0) (ends-none start end) (ends-some start end) (λ e. told-end refused (accepted 0)))
+fresh-told start end =
+    whole-link refused (accepted 0) bad-ends (BadEnds start end) [] (endsOk start end) (accepted 0) (ends-none start end) (ends-some start end) (λ e. told-end refused (accepted 0))
+
+pub fresh-listed : (start end : ℕ) → AsListed refused (freshRefusals start end) (freshSays start end)
+fresh-listed start end = chain-listed (freshRefusals start end) refl 0 (fresh-told start end)
 
 -- ---- put
 
@@ -88,30 +90,32 @@ module _ (net : Net) (o : orderly net ≡ true) (side : Side) (a : ℕ) (h : a <
         )
   ]
 
-pub put-listed : (net : Net) (side : Side) (a m : ℕ) → AsListed refused (putRefusals net side a m) (putSays net side a m)
+pub put-told : (net : Net) (side : Side) (a m : ℕ) → Told refused (putRefusals net side a m) (accepted (indicator (not (listed m (setsOn net side a))))) (putSays net side a m)
 unfolding putSays sideSays
-put-listed net side a m =
+put-told net side a m =
     let there = listed m (setsOn net side a) in
     let value = accepted (indicator (not there)) in
-    chain-listed (putRefusals net side a m) refl (indicator (not there))
-    (orderly-link refused value _ _ net
+    orderly-link refused value _ _ net
     (λ o. whole-link refused value no-activity _ _ (ltb a activities) _ (λ e h. let l = ltb-true a activities e in omega arith) (ltb-false a activities)
     (λ l. whole-link refused value misplaced-set _ _ (not (misplaced (emptyAt net side) a m)) _
     (λ e w. false-not-true (not-true _ e) (misplaced-exactly net side a m .1 w)) (λ e. misplaced-exactly net side a m .0 (not-false _ e))
     (λ p. whole-link refused value full-side _ [] (there || not (eqb (getD (lengthsOf net side) a 0) sets)) _
     (λ e w. w (room-exactly net o side a (ltb-true a activities l) m .0 e)) (λ e w. false-not-true e (room-exactly net o side a (ltb-true a activities l) m .1 w))
-    (λ e. told-end refused value)))))
+    (λ e. told-end refused value))))
+
+pub put-listed : (net : Net) (side : Side) (a m : ℕ) → AsListed refused (putRefusals net side a m) (putSays net side a m)
+put-listed net side a m = chain-listed (putRefusals net side a m) refl (indicator (not (listed m (setsOn net side a)))) (put-told net side a m)
 
 -- what put says of a set that isn't empty
 
-pub data PutSaid (net : Net) (side : Side) (a m : ℕ) : Type 0 where
-  said-misplaced : putSays net side a m ≡ refused misplaced-set 0 → a ≡ emptyAt net side → PutSaid net side a m
-  said-full : putSays net side a m ≡ refused full-side 0 → (a ≡ emptyAt net side → ⊥) → Exceeds net side a m → PutSaid net side a m
-  said-put : putSays net side a m .ok ≡ true → (a ≡ emptyAt net side → ⊥) → (Exceeds net side a m → ⊥) → PutSaid net side a m
+pub data PutCase (net : Net) (side : Side) (a m : ℕ) : Type 0 where
+  said-misplaced : putSays net side a m ≡ refused misplaced-set 0 → a ≡ emptyAt net side → PutCase net side a m
+  said-full : putSays net side a m ≡ refused full-side 0 → (a ≡ emptyAt net side → ⊥) → Exceeds net side a m → PutCase net side a m
+  said-put : putSays net side a m .ok ≡ true → (a ≡ emptyAt net side → ⊥) → (Exceeds net side a m → ⊥) → PutCase net side a m
 
-pub put-said : (net : Net) (side : Side) (a m : ℕ) → orderly net ≡ true → a < activities → 0 < m → PutSaid net side a m
+pub put-case : (net : Net) (side : Side) (a m : ℕ) → orderly net ≡ true → a < activities → 0 < m → PutCase net side a m
 unfolding putSays sideSays
-put-said net side a m o h k = go (misplaced (emptyAt net side) a m) refl (listed m (setsOn net side a) || not (eqb (getD (lengthsOf net side) a 0) sets)) refl
+put-case net side a m o h k = go (misplaced (emptyAt net side) a m) refl (listed m (setsOn net side a) || not (eqb (getD (lengthsOf net side) a 0) sets)) refl
   where
     there : misplaced (emptyAt net side) a m ≡ true → a ≡ emptyAt net side
     there p = ⊎-elim (λ v. absurd (omega (arith, v .0))) (λ v. v .1) (misplaced-exactly net side a m .0 p)
@@ -119,7 +123,7 @@ put-said net side a m o h k = go (misplaced (emptyAt net side) a m) refl (listed
     elsewhere : misplaced (emptyAt net side) a m ≡ false → a ≡ emptyAt net side → ⊥
     elsewhere p e = false-not-true p (misplaced-exactly net side a m .1 (inr ((λ z. omega arith), e)))
 
-    go : (p : Bool) → misplaced (emptyAt net side) a m ≡ p → (t : Bool) → listed m (setsOn net side a) || not (eqb (getD (lengthsOf net side) a 0) sets) ≡ t → PutSaid net side a m
+    go : (p : Bool) → misplaced (emptyAt net side) a m ≡ p → (t : Bool) → listed m (setsOn net side a) || not (eqb (getD (lengthsOf net side) a 0) sets) ≡ t → PutCase net side a m
     go true p t q = said-misplaced (rw (o, lt-ltb a activities h, p)) (there p)
     go false p true q = said-put (rw (o, lt-ltb a activities h, p, q)) (elsewhere p) (λ f. f (room-exactly net o side a h m .0 q))
     go false p false q = said-full (rw (o, lt-ltb a activities h, p, q)) (elsewhere p) (λ f. false-not-true q (room-exactly net o side a h m .1 f))

@@ -247,6 +247,11 @@ pub told-accepted : (ss : List Sentence) (v : ℕ) {answer : Says} → Told refu
 told-accepted ss v (passed none) = ((λ e. none), (λ e. refl))
 told-accepted ss v (stopped n p o) = ((λ e. absurd (accepted-not-refused v n p (sym e))), (λ none. absurd (none n p (order-holds ss n p o))))
 
+-- with a value, where none holds and it is the chain's
+pub told-value : (ss : List Sentence) (v w : ℕ) {answer : Says} → Told refused ss (accepted v) answer → (answer ≡ accepted w) ↔ (NoneHolds ss × (w ≡ v))
+told-value ss v w (passed none) = ((λ e. (none, sym (ap (λ (s : Says). s .value) e))), (λ h. ap accepted (sym (h .1))))
+told-value ss v w (stopped n p o) = ((λ e. absurd (accepted-not-refused w n p (sym e))), (λ h. absurd (h .0 n p (order-holds ss n p o))))
+
 pub told-ok : (ss : List Sentence) (v : ℕ) {answer : Says} → Told refused ss (accepted v) answer → answer .ok ≡ true → answer ≡ accepted v
 told-ok ss v (passed none) e = refl
 told-ok ss v (stopped n p o) e = absurd (false-not-true refl e)

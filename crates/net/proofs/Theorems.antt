@@ -2,22 +2,27 @@
 use Prim.Native.Nat.{ℕ}
 use native.Mathlib.Omega.{arith}
 use mathlib.Core.Path.{_≡_, refl, sym, ap}
-use mathlib.Core.Bool.{Bool, true, false, cond}
-use mathlib.Core.Logic.{_⊎_, ⊎-elim}
+use mathlib.Core.Bool.{Bool, true, false, not, cond}
+use mathlib.Core.Logic.{_↔_, _⊎_, ⊎-elim}
+use Rattle.obligations.specs.Tests.{indicator}
 use Rattle.obligations.proofs.BoolLaws.{true-or-false, false-not-true}
-use Rattle.net.specs.Refusals.{Says, accepted}
+use Rattle.net.specs.Refusals.{Says, accepted, refused}
+use Rattle.net.specs.Sentences.{NoneHolds}
+use Rattle.net.specs.Lists.{listed}
+use Rattle.net.specs.Sides.{setsOn}
 use Rattle.net.specs.Orderly.{Orderly, endsOk, orderly}
-use Rattle.net.specs.Fresh.{freshNet, freshSays, freshGives}
-use Rattle.net.specs.Put.{putSays, putGives}
+use Rattle.net.specs.Fresh.{freshNet, freshRefusals, freshSays, freshGives}
+use Rattle.net.specs.Put.{putRefusals, putSays, putGives}
 use Rattle.net.specs.Contained.{Contained, contained, containedSays}
-use Rattle.net.specs.Statements.{OrderlyTestRight, ContainedTestRight, FreshHolds, FreshRefused, Put, PutHolds, PutRefusedSame, ContainedSaid, FreshListed, PutListed, ContainedListed}
+use Rattle.net.specs.Statements.{OrderlyTestRight, ContainedTestRight, FreshSaid, FreshHolds, FreshRefused, Put, PutSaid, PutHolds, PutRefusedSame, ContainedSaid, FreshListed, PutListed, ContainedListed}
 use Rattle.net.specs.declared.Net.{Net}
 use Rattle.net.specs.declared.Side.{Side}
+use Rattle.net.proofs.SentenceLaws.{Told, told-accepted, told-value}
 use Rattle.net.proofs.OrderlyLaws.{orderly-facts, facts-orderly}
 use Rattle.net.proofs.FreshLaws.{fresh-start, fresh-end, fresh-on-side, fresh-orderly}
 use Rattle.net.proofs.PutLaws.{put-refused, put-accepted, put-start, put-end, put-orderly, put-on-side, put-size}
 use Rattle.net.proofs.ContainedLaws.{contained-facts, facts-contained}
-use Rattle.net.proofs.RefusalLaws.{fresh-listed, put-listed, contained-listed}
+use Rattle.net.proofs.RefusalLaws.{fresh-told, fresh-listed, put-told, put-listed, contained-listed}
 
 pub orderly-test-right : OrderlyTestRight
 orderly-test-right net = (orderly-facts net, facts-orderly net)
@@ -26,6 +31,9 @@ pub contained-test-right : ContainedTestRight
 contained-test-right net other = (contained-facts net other, facts-contained net other)
 
 -- ---- fresh
+
+pub fresh-said : FreshSaid
+fresh-said start end = told-accepted (freshRefusals start end) 0 (fresh-told start end)
 
 -- the net that fresh returns where it accepts
 pub fresh-made : (start end : ℕ) → freshSays start end ≡ accepted 0 → (endsOk start end ≡ true) × (freshGives start end ≡ freshNet start end)
@@ -49,6 +57,21 @@ unfolding freshSays freshGives
 fresh-refused start end n p e = ⊎-elim (λ o. absurd (false-not-true refl (sym (ap (λ (s : Says). s .ok) (rw o at e))))) (λ o. rw o) (true-or-false (endsOk start end))
 
 -- ---- put
+
+pub put-said : PutSaid
+put-said net side a m = go (listed m (setsOn net side a)) (put-told net side a m)
+  where
+    go : (there : Bool) → Told refused (putRefusals net side a m) (accepted (indicator (not there))) (putSays net side a m)
+        → ((putSays net side a m ≡ accepted 1) ↔ (NoneHolds (putRefusals net side a m) × (there ≡ true → ⊥)))
+        × ((putSays net side a m ≡ accepted 0) ↔ (NoneHolds (putRefusals net side a m) × (there ≡ true)))
+    go true t = (
+      ((λ e. absurd (omega (arith, told-value (putRefusals net side a m) 0 1 t .0 e .1))), (λ h. absurd (h .1 refl))),
+      ((λ e. (told-accepted (putRefusals net side a m) 0 t .0 e, refl)), (λ h. told-accepted (putRefusals net side a m) 0 t .1 (h .0))),
+    )
+    go false t = (
+      ((λ e. (told-accepted (putRefusals net side a m) 1 t .0 e, false-not-true refl)), (λ h. told-accepted (putRefusals net side a m) 1 t .1 (h .0))),
+      ((λ e. absurd (omega (arith, told-value (putRefusals net side a m) 1 0 t .0 e .1))), (λ h. absurd (false-not-true refl (h .1)))),
+    )
 
 put-with : (net : Net) (side : Side) (a m new : ℕ) → putSays net side a m ≡ accepted new → Put net side a m new (putGives net side a m)
 put-with net side a m new e =

@@ -4,9 +4,13 @@ use mathlib.Core.Bool.{Bool, cond}
 use lib.Dec.{eqb}
 use Rattle.net.specs.Refusals.{Says, refused}
 
--- the rest of the chain if the test passes, else the refusal n with this place
+-- the rest of the chain if the test passes, else the refusal n with this place; `refusal` is how an answer says one
+abbrev pub unlessBy : {A : Type 0} → (ℕ → ℕ → A) → Bool → ℕ → ℕ → A → A
+unlessBy refusal test n place rest = cond test rest (refusal n place)
+
+-- of what a call says
 abbrev pub unlessAt : Bool → ℕ → ℕ → Says → Says
-unlessAt test n place rest = cond test rest (refused n place)
+unlessAt test n place rest = unlessBy refused test n place rest
 
 -- the same with place 0
 abbrev pub unless : Bool → ℕ → Says → Says

@@ -6,7 +6,7 @@ use mathlib.Core.Path.{_≡_}
 use mathlib.Core.Bool.{true, false}
 use mathlib.Core.Logic.{_↔_, _⊎_}
 use Rattle.net.specs.Sides.{emptyAt, OnSide, netSize}
-use Rattle.net.specs.Sentences.{AsListed}
+use Rattle.net.specs.Sentences.{NoneHolds, AsListed}
 use Rattle.net.specs.Orderly.{Orderly, orderly}
 use Rattle.net.specs.Fresh.{freshMeans, freshNet, freshRefusals, freshSays, freshGives}
 use Rattle.net.specs.Put.{putMeans, putRefusals, putSays, putGives}
@@ -32,6 +32,10 @@ pub record Fresh (start end : ℕ) (net : Net) : Type 0 where
   pub is-orderly : Orderly net
   pub two-empty : (side : Side) (a m : ℕ) → OnSide net side a m ↔ ((a ≡ emptyAt net side) × (m ≡ 0))
 
+-- fresh is accepted exactly if no refusal holds, and then returns such a net
+abbrev pub FreshSaid : Type 0
+FreshSaid = (start end : ℕ) → (freshSays start end ≡ freshMeans fresh.Made) ↔ NoneHolds (freshRefusals start end)
+
 abbrev pub FreshHolds : Type 0
 FreshHolds = (start end : ℕ) → freshSays start end ≡ freshMeans fresh.Made → Fresh start end (freshGives start end)
 
@@ -46,6 +50,13 @@ pub record Put (net : Net) (side : Side) (a m new : ℕ) (after : Net) : Type 0 
   pub is-orderly : Orderly after
   pub on-sides : (t : Side) (b x : ℕ) → OnSide after t b x ↔ (OnSide net t b x ⊎ ((t ≡ side) × (b ≡ a) × (x ≡ m)))
   pub grown-by : netSize after ≡ netSize net + new
+
+-- put is accepted exactly if no refusal holds, and says whether the set was new
+abbrev pub PutSaid : Type 0
+PutSaid =
+    (net : Net) (side : Side) (a m : ℕ)
+    → ((putSays net side a m ≡ putMeans put.New) ↔ (NoneHolds (putRefusals net side a m) × (OnSide net side a m → ⊥)))
+    × ((putSays net side a m ≡ putMeans put.Present) ↔ (NoneHolds (putRefusals net side a m) × OnSide net side a m))
 
 abbrev pub PutHolds : Type 0
 PutHolds =

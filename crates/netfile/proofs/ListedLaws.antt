@@ -34,7 +34,7 @@ use Rattle.net.proofs.OrderlyLaws.{facts-ends}
 use Rattle.net.proofs.FreshLaws.{fresh-start, fresh-end, fresh-orderly, fresh-on-side}
 use Rattle.net.proofs.PutLaws.{put-start, put-end, put-orderly, put-on-side}
 use Rattle.net.proofs.WithinLaws.{same-empty}
-use Rattle.net.proofs.RefusalLaws.{PutSaid, said-misplaced, said-full, said-put, put-said}
+use Rattle.net.proofs.RefusalLaws.{PutCase, said-misplaced, said-full, said-put, put-case}
 use Rattle.net.proofs.DistinctLaws.{fewer}
 use Rattle.netfile.specs.Limits.{netBytes}
 use Rattle.netfile.specs.NetFile.{netHeader, startWord, endWord, readEnd, readRow, rowSays, rowGives, refusedAt, readRows, afterEnd, fromEnd, afterStart, fromStart, fromHeader, readNet}
@@ -157,12 +157,12 @@ module _ (text : List ℕ) where
       (cond (rowSays net row .ok) (readRows (suc (suc (suc (suc j))) + 1) (rowGives net row) ls) (refusedAt (rowSays net row .refusal) (suc (suc (suc (suc j))))) .says)
   row-told j net ls s has (row-form w) next = stops (suc (suc (suc (suc j)))) line-form (inl (refl, holds-whole (has, w)))
   row-told j net ls s has (row-number f w) next = stops (suc (suc (suc (suc j)))) number-form (inr (not-whole (λ b. f (b .1)), inl (refl, holds-whole (has, w))))
-  row-told j net ls s has (set-row side a m f g i) next = put (put-said net side a m (s .is-orderly) (i .is-activity) (i .not-empty))
+  row-told j net ls s has (set-row side a m f g i) next = put (put-case net side a m (s .is-orderly) (i .is-activity) (i .not-empty))
     where
       low : 3 ≤ suc (suc (suc j))
       low = omega arith
 
-      put : PutSaid net side a m
+      put : PutCase net side a m
           → Told (suc (suc (suc (suc j))))
           (cond (putSays net side a m .ok) (readRows (suc (suc (suc (suc j))) + 1) (putGives net side a m) ls) (refusedAt (putSays net side a m .refusal) (suc (suc (suc (suc j))))) .says)
       put (said-misplaced q e) =

@@ -1,7 +1,7 @@
 -- One call, said of learn and follow alike, since a follow is the learn of its trace's sequence: it is answered by its sentences, an
 -- accepted one gives the net with its sequence's sets, and a refused one gives the net back. Assumes nothing.
 use Prim.Native.Nat.{ℕ, _+_, _*_}
-use mathlib.Core.Path.{_≡_, refl, sym, subst, _∙_}
+use mathlib.Core.Path.{_≡_, refl, sym, ap, subst, _∙_}
 use mathlib.Core.List.{List}
 use mathlib.Core.Logic.{_↔_}
 use native.Mathlib.Omega.{arith}
@@ -9,18 +9,19 @@ use Rattle.obligations.specs.Sequence.{Binding, bindings, words}
 use Rattle.obligations.proofs.SequenceLaws.{bindings-words, held-at}
 use Rattle.net.specs.Refusals.{Says, accepted, refused}
 use Rattle.net.specs.Sentences.{NoneHolds, AsListed}
+use Rattle.net.specs.Sides.{netSize}
 use Rattle.net.specs.Valid.{Valid}
 use Rattle.net.specs.declared.Net.{Net}
 use Rattle.net.specs.declared.Side.the-variants.{Input, Output}
 use Rattle.net.proofs.SentenceLaws.{Told, told-accepted}
-use Rattle.sequences.specs.Gain.{gained, Gains}
+use Rattle.sequences.specs.Gain.{Gains}
 use Rattle.sequences.specs.Learn.{newSets, learnSays, learnGives}
 use Rattle.sequences.specs.Follow.{followed}
 use Rattle.sequences.specs.Statements.{Words}
 use Rattle.sequences.proofs.FollowLaws.{words-followed}
 use Rattle.sequences.proofs.FollowLearnLaws.{follow-is-learn}
 use Rattle.sequences.proofs.RefusalLaws.{learn-told, learn-listed, follow-told, follow-listed}
-use Rattle.sequences.proofs.Theorems.{learn-gives, follow-gives, learn-holds, learn-valid, refused-same}
+use Rattle.sequences.proofs.Theorems.{learn-accepts, learn-holds, learn-valid, refused-same}
 use Rattle.promises.specs.Calls.{Call, learn, follow, wordsOf, sequenceOf, refusals, says, gives}
 use Rattle.promises.proofs.ValidWalkLaws.{SetsAreMasks}
 
@@ -67,14 +68,14 @@ module _ (net : Net) (call : Call) (new : ℕ) (e : says net call ≡ accepted n
       subst (Gains net (sequenceOf call)) (sym (gives-learned net call))
       (subst (λ (s : List Binding). Gains net s (learnGives net (learnedWords call))) (bindings-learned call) (learn-holds net (learnedWords call) new learned-says))
 
+  -- by as many sets as are said to be new
+  pub call-grows : netSize (gives net call) ≡ netSize net + new
+  call-grows = ap netSize (gives-learned net call) ∙ learn-accepts net (learnedWords call) new .0 learned-says .1
+
   pub call-valid : Valid (gives net call) (sequenceOf call)
   call-valid =
       subst (λ (n : Net). Valid n (sequenceOf call)) (sym (gives-learned net call))
       (subst (Valid (learnGives net (learnedWords call))) (bindings-learned call) (learn-valid net (learnedWords call) new learned-says))
-
-pub call-gained : (net : Net) (call : Call) (new : ℕ) → says net call ≡ accepted new → gives net call ≡ gained net (sequenceOf call)
-call-gained net (learn ws) new e = learn-gives net ws new e
-call-gained net (follow trace) new e = follow-gives net trace new e
 
 pub call-stays : (net : Net) (call : Call) (n p : ℕ) → says net call ≡ refused n p → gives net call ≡ net
 call-stays net (learn ws) n p e = refused-same net ws n p .0 e

@@ -1,6 +1,7 @@
 -- The promise of specs/Promise.antt: the answers are those of each call's sentences, and the rest is read off the net that has grown
 -- from the fresh one. Assumes nothing.
-use Prim.Native.Nat.{ℕ, _-_}
+use Prim.Native.Nat.{ℕ}
+use native.Mathlib.Omega.{arith}
 use mathlib.Core.Path.{_≡_, refl, sym, ap, _∙_}
 use mathlib.Core.Bool.{true}
 use mathlib.Core.List.{List, [], _∷_, List·Memᴰ}
@@ -8,7 +9,6 @@ use mathlib.Core.Logic.{_↔_, _⊎_, inl, inr}
 use Rattle.obligations.specs.Sequence.{Binding}
 use Rattle.net.specs.Refusals.{Says, accepted}
 use Rattle.net.specs.Sentences.{NoneHolds, Listed}
-use Rattle.net.specs.Sides.{netSize}
 use Rattle.net.specs.Orderly.{endsOk}
 use Rattle.net.specs.Fresh.{freshNet}
 use Rattle.net.specs.Contained.{containedSays}
@@ -24,7 +24,7 @@ use Rattle.walks.proofs.Theorems.{passes-says}
 use Rattle.sequences.specs.Learn.{newSets}
 use Rattle.promises.specs.Calls.{Call, sequenceOf, refusals, says, gives, grown, answers}
 use Rattle.promises.specs.Promise.{Called, Runs, none-left, accepts, refuses, Promise, Promised}
-use Rattle.promises.proofs.CallLaws.{call-listed, call-accepted, call-gains, call-gained, call-stays}
+use Rattle.promises.proofs.CallLaws.{call-listed, call-accepted, call-gains, call-grows, call-stays}
 use Rattle.promises.proofs.GrownLaws.{learned, learned-nothing, learned-more, learned-same, Grown, grown-list, learned-masks, grown-valid}
 use Rattle.promises.proofs.PassLaws.{grown-net-passes}
 use Rattle.promises.proofs.WithinLaws.{valid-grows, all-valid-contained}
@@ -36,8 +36,8 @@ pub called : (net : Net) (call : Call) → Called net call
 called net call = record {
   as-listed = call-listed net call;
   accepted-exactly = λ new. (
-    (λ e. let none = not-refused new e in (none, ap (λ (s : Says). s .value) (sym e ∙ call-accepted net call .1 none) ∙ sym (same-count none))),
-    (λ w. call-accepted net call .1 (w .0) ∙ ap accepted (sym (w .1 ∙ same-count (w .0)))),
+    (λ e. (not-refused new e, call-grows net call new e)),
+    (λ w. let e = call-accepted net call .1 (w .0) in e ∙ ap accepted (omega (arith, call-grows net call (newSets net (sequenceOf call)) e, w .1))),
   );
   gains = λ none. call-gains net call (newSets net (sequenceOf call)) (call-accepted net call .1 none);
   stays = λ n p l. call-stays net call n p (call-listed net call .refused-exactly n p .1 l);
@@ -45,9 +45,6 @@ called net call = record {
   where
     not-refused : (new : ℕ) → says net call ≡ accepted new → NoneHolds (refusals net call)
     not-refused new e = call-listed net call .accepted-exactly .0 (λ n p f. accepted-not-refused new n p (sym e ∙ f))
-
-    same-count : NoneHolds (refusals net call) → netSize (gives net call) - netSize net ≡ newSets net (sequenceOf call)
-    same-count none = ap (λ (x : Net). netSize x - netSize net) (call-gained net call (newSets net (sequenceOf call)) (call-accepted net call .1 none))
 
 -- ---- a list of calls
 
@@ -57,9 +54,9 @@ runs-more : (net : Net) (call : Call) (calls : List Call) → ((next : Net) → 
     → Runs net (call ∷ calls) (answers net (call ∷ calls)) (learned net (call ∷ calls)) (grown net (call ∷ calls))
 unfolding answers grown
 runs-more net call calls rest (inl none) =
-    let new = netSize (gives net call) - netSize net in
-    let e = called net call .accepted-exactly new .1 (none, refl) in
-    rw (e, learned-more net call calls new e) (accepts none (called net call .gains none) refl (rest (gives net call)))
+    let new = newSets net (sequenceOf call) in
+    let e = call-accepted net call .1 none in
+    rw (e, learned-more net call calls new e) (accepts none (called net call .gains none) (call-grows net call new e) (rest (gives net call)))
 runs-more net call calls rest (inr (n, p, l)) =
     let e = call-listed net call .refused-exactly n p .1 l in
     rw (e, learned-same net call calls n p e, called net call .stays n p l) (refuses l (rest net))

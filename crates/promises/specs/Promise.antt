@@ -1,5 +1,5 @@
 -- Demand 3 (01, "Learning and containment"): one promise of every list of learning calls. The proof is in proofs/Theorems.antt.
-use Prim.Native.Nat.{ℕ, _-_}
+use Prim.Native.Nat.{ℕ, _+_}
 use mathlib.Core.Path.{_≡_}
 use mathlib.Core.List.{List, [], _∷_, _++_, List·Memᴰ}
 use mathlib.Core.Logic.{_↔_}
@@ -29,7 +29,7 @@ use Rattle.promises.specs.Replays.{SaysFound, SaysNone, NotRefused, Ends
 -- net so far
 pub record Called (net : Net) (call : Call) : Type 0 where
   pub as-listed : AsListed (λ n p. learnMeans (Refused n p)) (refusals net call) (says net call)
-  pub accepted-exactly : (new : ℕ) → (says net call ≡ learnMeans (Learned new)) ↔ (NoneHolds (refusals net call) × (new ≡ netSize (gives net call) - netSize net))
+  pub accepted-exactly : (new : ℕ) → (says net call ≡ learnMeans (Learned new)) ↔ (NoneHolds (refusals net call) × (netSize (gives net call) ≡ netSize net + new))
   pub gains : NoneHolds (refusals net call) → Gains net (sequenceOf call) (gives net call)
   pub stays : (number place : ℕ) → Listed (refusals net call) number place → gives net call ≡ net
 
@@ -37,7 +37,7 @@ pub record Called (net : Net) (call : Call) : Type 0 where
 pub data Runs : Net → List Call → List Says → List (List Binding) → Net → Type 0 where
   none-left : {net : Net} → Runs net [] [] [] net
   accepts : {net after last : Net} {call : Call} {calls : List Call} {new : ℕ} {said : List Says} {ss : List (List Binding)}
-      → NoneHolds (refusals net call) → Gains net (sequenceOf call) after → new ≡ netSize after - netSize net
+      → NoneHolds (refusals net call) → Gains net (sequenceOf call) after → netSize after ≡ netSize net + new
       → Runs after calls said ss last → Runs net (call ∷ calls) (learnMeans (Learned new) ∷ said) (sequenceOf call ∷ ss) last
   refuses : {net last : Net} {call : Call} {calls : List Call} {number place : ℕ} {said : List Says} {ss : List (List Binding)}
       → Listed (refusals net call) number place

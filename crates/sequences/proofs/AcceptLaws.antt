@@ -23,7 +23,7 @@ use Rattle.net.proofs.OrderlyLaws.{orderly-facts, facts-orderly}
 use Rattle.net.proofs.PutSideLaws.{placed-one}
 use Rattle.net.proofs.ChainLaws.{unless-passes, none-passes}
 use Rattle.sequences.specs.Limits.{wordsWithin, withinLimits}
-use Rattle.sequences.specs.Gain.{fits}
+use Rattle.sequences.specs.Gain.{Fits, fits}
 use Rattle.sequences.specs.Learn.{emptyAgree, firstWronglyEmpty, learnPositions, learnSays}
 use Rattle.sequences.specs.Statements.{Learnable}
 use Rattle.sequences.proofs.FitLaws.{Placed, fits-exactly}
@@ -111,6 +111,10 @@ module _ (start end : ℕ) (s : List Binding) (f : WellFormed start end s) where
   pub formed-zero : allZero (ψ s) ≡ true
   formed-zero = zero-left s .1 (f .nothing-left)
 
+-- the test that a well-formed sequence fits
+pub fits-formed : (net : Net) (s : List Binding) → orderly net ≡ true → WellFormed (net .start) (net .end) s → (fits net s ≡ true) ↔ Fits net s
+fits-formed net s o f = fits-exactly net s o (f .activities-only) (well-placed net s (f .shape) (formed-empty (net .start) (net .end) s f))
+
 module _ (net : Net) (ws : List ℕ) where
   pub accepted-learnable : learnSays net ws .ok ≡ true → Learnable net ws
   unfolding learnSays withinLimits learnPositions
@@ -132,7 +136,7 @@ module _ (net : Net) (ws : List ℕ) where
         whole = n .1;
         few = n .2;
         well-formed = f;
-        fitting = fits-exactly net s (c₂ .0) (f .activities-only) (well-placed net s (f .shape) (empty-facts s (c₉ .0))) .0 (c₁₂ .0);
+        fitting = fits-formed net s (c₂ .0) f .0 (c₁₂ .0);
       }
 
   pub learnable-accepted : Learnable net ws → learnSays net ws .ok ≡ true
@@ -141,14 +145,13 @@ module _ (net : Net) (ws : List ℕ) where
       let s = bindings ws in
       let f = l .well-formed in
       let o = facts-orderly net (l .net-orderly) in
-      let e = formed-empty (net .start) (net .end) s f in
       rw (
         o,
         whole-words ws (l .count) (l .whole) (l .few),
         formed-activities (net .start) (net .end) s f,
         formed-shaped (net .start) (net .end) s f,
-        facts-empty s e,
+        facts-empty s (formed-empty (net .start) (net .end) s f),
         formed-possible (net .start) (net .end) s f,
         formed-zero (net .start) (net .end) s f,
-        fits-exactly net s o (f .activities-only) (well-placed net s (f .shape) e) .1 (l .fitting),
+        fits-formed net s o f .1 (l .fitting),
       )

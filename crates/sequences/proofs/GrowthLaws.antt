@@ -1,7 +1,7 @@
--- The net after it gained a sequence's sets: it is orderly, has the same start and end, and each side holds exactly what it
--- held and what the sequence has for it. Each put is one of `net`'s, so its laws carry over position by position. Assumes
--- nothing.
-use Prim.Native.Nat.{ℕ, zero, suc, _<_}
+-- The net after it gained a sequence's sets: it is orderly, has the same start and end and no fewer sets, and each side holds
+-- exactly what it held and what the sequence has for it. Each put is one of `net`'s, so its laws carry over position by
+-- position. Assumes nothing.
+use Prim.Native.Nat.{ℕ, zero, suc, _≤_, _<_}
 use mathlib.Core.Path.{_≡_, refl, sym, ap, subst, _∙_}
 use mathlib.Core.Bool.{true}
 use mathlib.Core.List.{List, [], _∷_}
@@ -9,15 +9,15 @@ use mathlib.Core.Logic.{_↔_, _⊎_, inl, inr, ⊎-elim}
 use native.Mathlib.Omega.{arith}
 use lib.ListN.{length}
 use Rattle.obligations.specs.Sequence.{Binding, at}
-use Rattle.obligations.proofs.BoolLaws.{and-left, and-right}
-use Rattle.net.specs.Sides.{OnSide}
+use Rattle.obligations.proofs.BoolLaws.{and-left, and-right, true-or-false}
+use Rattle.net.specs.Sides.{OnSide, netSize}
 use Rattle.net.specs.Orderly.{orderly}
 use Rattle.net.specs.Put.{putSays, putGives}
 use Rattle.net.specs.Contained.{Contained}
 use Rattle.net.specs.declared.Net.{Net}
 use Rattle.net.specs.declared.Side.{Side}
 use Rattle.net.specs.declared.Side.the-variants.{Input, Output}
-use Rattle.net.proofs.PutLaws.{put-says-side, put-gives-sides, put-orderly, put-on-side}
+use Rattle.net.proofs.PutLaws.{put-says-side, put-gives-sides, put-refused, put-orderly, put-on-side, put-size}
 use Rattle.net.proofs.ContainedLaws.{contained-refl, contained-trans, put-contained}
 use Rattle.sequences.specs.Gain.{withPut, takesPut, withBinding, takesBinding, gained, fits, setFor, SetOf}
 
@@ -41,6 +41,12 @@ module _ (net : Net) (side : Side) (a m : ℕ) (o : orderly net ≡ true) (h : a
   pub with-put-contained : Contained net (withPut net side a m)
   with-put-contained = subst (Contained net) (sym with-put) (put-contained net side a m)
 
+  -- no put takes a set away
+  with-put-size : netSize net ≤ netSize (withPut net side a m)
+  with-put-size =
+      ⊎-elim (λ k. omega (arith, ap netSize with-put, put-size net side a m k)) (λ k. omega (arith, ap netSize with-put, ap netSize (put-refused net side a m k)))
+      (true-or-false (putSays net side a m .ok))
+
 -- ---- one position
 
 module _ (net : Net) (b : Binding) (o : orderly net ≡ true) (h : b .activity < 32) where
@@ -58,6 +64,10 @@ module _ (net : Net) (b : Binding) (o : orderly net ≡ true) (h : b .activity <
   unfolding withBinding
   with-binding-contained =
       contained-trans net between (withPut between Output (b .activity) (b .output)) (with-put-contained net Input (b .activity) (b .input) o h) (with-put-contained between Output (b .activity) (b .output) between-orderly h)
+
+  with-binding-size : netSize net ≤ netSize (withBinding net b)
+  unfolding withBinding
+  with-binding-size = omega (arith, with-put-size net Input (b .activity) (b .input) o h, with-put-size between Output (b .activity) (b .output) between-orderly h)
 
   pub with-binding-on-side : takesBinding net b ≡ true → (t : Side) (a m : ℕ)
       → OnSide (withBinding net b) t a m ↔ (OnSide net t a m ⊎ ((b .activity ≡ a) × (setFor t b ≡ m)))
@@ -100,6 +110,12 @@ gained-contained net [] o h = contained-refl net
 gained-contained net (b ∷ s) o h =
     contained-trans net (withBinding net b) (gained (withBinding net b) s) (with-binding-contained net b o (h 0 (omega arith)))
     (gained-contained (withBinding net b) s (with-binding-orderly net b o (h 0 (omega arith))) (λ i l. h (suc i) (omega arith)))
+
+pub gained-size : (net : Net) (s : List Binding) → orderly net ≡ true → Activities s → netSize net ≤ netSize (gained net s)
+unfolding gained
+gained-size net [] o h = omega arith
+gained-size net (b ∷ s) o h =
+    omega (arith, with-binding-size net b o (h 0 (omega arith)), gained-size (withBinding net b) s (with-binding-orderly net b o (h 0 (omega arith))) (λ i l. h (suc i) (omega arith)))
 
 -- the sets that a sequence has for a side, at its first position or after it
 pub set-first : (t : Side) (b : Binding) (s : List Binding) {a m : ℕ} → b .activity ≡ a → setFor t b ≡ m → SetOf t (b ∷ s) a m

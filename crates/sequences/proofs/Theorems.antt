@@ -1,31 +1,27 @@
 -- The statements of specs/Statements.antt. Assumes nothing.
-use Prim.Native.Nat.{ℕ}
+use Prim.Native.Nat.{ℕ, _+_}
+use native.Mathlib.Omega.{arith}
 use mathlib.Core.Path.{_≡_, refl, sym, ap, subst, _∙_}
 use mathlib.Core.Bool.{true}
 use mathlib.Core.List.{List}
 use mathlib.Core.Logic.{inr}
-use lib.ListN.{length}
-use Rattle.obligations.specs.State.{allZero}
-use Rattle.obligations.specs.Trace.{firstNoActivity, shaped}
-use Rattle.obligations.specs.Sequence.{bindings, at, ψ, WellFormed, firstImpossible}
-use Rattle.obligations.proofs.TraceLaws.{activities-below}
+use Rattle.obligations.specs.Sequence.{bindings, at, WellFormed}
 use Rattle.net.specs.Refusals.{Says, accepted}
+use Rattle.net.specs.Sides.{netSize}
 use Rattle.net.specs.Orderly.{orderly}
 use Rattle.net.specs.declared.Net.{Net}
 use Rattle.net.specs.declared.Side.the-variants.{Input, Output}
-use Rattle.net.proofs.OrderlyLaws.{orderly-facts}
-use Rattle.net.proofs.SentenceLaws.{told-accepted, told-ok}
-use Rattle.net.proofs.ChainLaws.{unless-passes, none-passes}
-use Rattle.sequences.specs.Limits.{wordsWithin, withinLimits}
+use Rattle.net.proofs.OrderlyLaws.{orderly-facts, facts-orderly}
+use Rattle.net.proofs.SentenceLaws.{told-accepted, told-value, told-ok}
 use Rattle.sequences.specs.Gain.{gained, fits}
-use Rattle.sequences.specs.Learn.{learnRefusals, firstWronglyEmpty, newSets, learnPositions, learnSays, learnGives}
-use Rattle.sequences.specs.Follow.{followed, followSays, followGives}
+use Rattle.sequences.specs.Learn.{learnRefusals, newSets, learnSays, learnGives}
+use Rattle.sequences.specs.Follow.{followGives}
 use Rattle.sequences.specs.Judge.{judgeRefusals}
-use Rattle.sequences.specs.Statements.{LearnListed, FollowListed, JudgeListed, NoneHoldsLearnable, LearnAccepts, LearnHolds, LearnValid, RefusedSame, FollowLearns, NoneHoldsJudgeable, JudgeAccepts}
-use Rattle.sequences.proofs.AcceptLaws.{accepted-learnable, learnable-accepted}
+use Rattle.sequences.specs.Statements.{LearnListed, FollowListed, JudgeListed, NoneHoldsLearnable, LearnAccepts, FitsTestRight, LearnHolds, LearnValid, RefusedSame, FollowLearns, NoneHoldsJudgeable, JudgeAccepts}
+use Rattle.sequences.proofs.AcceptLaws.{fits-formed, accepted-learnable, learnable-accepted}
 use Rattle.sequences.proofs.ValidLaws.{accepted-judgeable, judgeable-accepted}
 use Rattle.sequences.proofs.RefusalLaws.{learn-told, learn-listed, follow-listed, judge-told, judge-listed}
-use Rattle.sequences.proofs.GrowthLaws.{Activities, gained-orderly, gained-contained, gained-on-side}
+use Rattle.sequences.proofs.GrowthLaws.{Activities, gained-orderly, gained-contained, gained-size, gained-on-side}
 use Rattle.sequences.proofs.FollowLearnLaws.{follow-is-learn}
 
 -- ---- the refusals
@@ -45,12 +41,6 @@ judge-as-listed = judge-listed
 learn-value : (net : Net) (ws : List ℕ) → learnSays net ws .ok ≡ true → learnSays net ws ≡ accepted (newSets net (bindings ws))
 learn-value net ws e = told-ok (learnRefusals net ws) (newSets net (bindings ws)) (learn-told net ws) e
 
-pub learn-accepts : LearnAccepts
-learn-accepts net ws = (
-  (λ w. accepted-learnable net ws (ap (λ (s : Says). s .ok) (w .1))),
-  (λ l. (newSets net (bindings ws), learn-value net ws (learnable-accepted net ws l))),
-)
-
 pub none-holds-learnable : NoneHoldsLearnable
 none-holds-learnable net ws =
     let t = told-accepted (learnRefusals net ws) (newSets net (bindings ws)) (learn-told net ws) in (
@@ -58,34 +48,40 @@ none-holds-learnable net ws =
       (λ l. t .0 (learn-value net ws (learnable-accepted net ws l))),
     )
 
--- what an accepted learn shows of the net and the sequence
-pub record LearnedParts (net : Net) (ws : List ℕ) : Type 0 where
-  pub net-orderly : orderly net ≡ true
-  pub activities-only : Activities (bindings ws)
-  pub fitting : fits net (bindings ws) ≡ true
+pub fits-test-right : FitsTestRight
+fits-test-right net s o f = fits-formed net s (facts-orderly net o) f
 
-pub accepted-parts : (net : Net) (ws : List ℕ) → learnSays net ws .ok ≡ true → LearnedParts net ws
-unfolding learnSays withinLimits learnPositions
+-- what an accepted learn shows of the net and the sequence, by the tests
+record LearnedParts (net : Net) (ws : List ℕ) : Type 0 where
+  net-orderly : orderly net ≡ true
+  activities-only : Activities (bindings ws)
+  fitting : fits net (bindings ws) ≡ true
+
+accepted-parts : (net : Net) (ws : List ℕ) → learnSays net ws .ok ≡ true → LearnedParts net ws
 accepted-parts net ws e =
-    let s = bindings ws in
-    let c₂ = unless-passes (orderly net) 2 _ .0 e in
-    let c₃ = unless-passes (wordsWithin ws) 3 _ .0 (c₂ .1) in
-    let c₄ = none-passes (firstNoActivity (length s) (λ i. at s i .activity)) 4 _ .0 (c₃ .1) in
-    let c₇ = unless-passes (shaped (net .start) (net .end) (length s) (λ i. at s i .activity)) 7 _ .0 (c₄ .1) in
-    let c₉ = none-passes (firstWronglyEmpty s) 9 _ .0 (c₇ .1) in
-    let c₁₀ = none-passes (firstImpossible s) 10 _ .0 (c₉ .1) in
-    let c₁₁ = unless-passes (allZero (ψ s)) 11 _ .0 (c₁₀ .1) in
-    let c₁₂ = unless-passes (fits net s) 12 _ .0 (c₁₁ .1) in
-    record { net-orderly = c₂ .0; activities-only = activities-below (length s) (λ i. at s i .activity) (c₄ .0); fitting = c₁₂ .0 }
+    let l = accepted-learnable net ws e in
+    let o = facts-orderly net (l .net-orderly) in
+    record { net-orderly = o; activities-only = l .well-formed .activities-only; fitting = fits-formed net (bindings ws) o (l .well-formed) .1 (l .fitting) }
 
--- what they give where they accept
-pub learn-gives : (net : Net) (ws : List ℕ) (new : ℕ) → learnSays net ws ≡ accepted new → learnGives net ws ≡ gained net (bindings ws)
+-- what learn gives where it accepts
+learn-gives : (net : Net) (ws : List ℕ) (new : ℕ) → learnSays net ws ≡ accepted new → learnGives net ws ≡ gained net (bindings ws)
 unfolding learnGives
 learn-gives net ws new e = rw (ap (λ (s : Says). s .ok) e)
 
-pub follow-gives : (net : Net) (trace : List ℕ) (new : ℕ) → followSays net trace ≡ accepted new → followGives net trace ≡ gained net (followed trace)
-unfolding followGives
-follow-gives net trace new e = rw (ap (λ (s : Says). s .ok) e)
+-- the value that is said is the growth of the net's own lists
+pub learn-accepts : LearnAccepts
+learn-accepts net ws new = (
+  (λ e. (accepted-learnable net ws (ap (λ (s : Says). s .ok) e), grown new e)),
+  (λ w.
+      let e = learn-value net ws (learnable-accepted net ws (w .0)) in
+      e ∙ ap accepted (omega (arith, grown (newSets net (bindings ws)) e, w .1))),
+)
+  where
+    grown : (n : ℕ) → learnSays net ws ≡ accepted n → netSize (learnGives net ws) ≡ netSize net + n
+    grown n e =
+        let p = accepted-parts net ws (ap (λ (s : Says). s .ok) e) in
+        let v = told-value (learnRefusals net ws) (newSets net (bindings ws)) n (learn-told net ws) .0 e in
+        omega (arith, v .1, ap netSize (learn-gives net ws n e), gained-size net (bindings ws) (p .net-orderly) (p .activities-only))
 
 pub learn-holds : LearnHolds
 learn-holds net ws new said =

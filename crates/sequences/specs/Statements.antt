@@ -1,18 +1,20 @@
 -- What is proved of the definitions: each call is refused as listed, which sequences are learned and judged valid, what the net
 -- then holds, and that following is learning. The proofs are in proofs/Theorems.antt.
-use Prim.Native.Nat.{ℕ, _*_, _≤_, _<_}
+use Prim.Native.Nat.{ℕ, _+_, _*_, _≤_, _<_}
 use mathlib.Core.Path.{_≡_}
+use mathlib.Core.Bool.{true}
 use mathlib.Core.List.{List}
 use mathlib.Core.Logic.{_↔_}
 use lib.ListN.{length, getD}
 use Rattle.obligations.specs.Limits.{masks, positions}
-use Rattle.obligations.specs.Sequence.{bindings, words, WellFormed}
+use Rattle.obligations.specs.Sequence.{Binding, bindings, words, WellFormed}
 use Rattle.net.specs.Sentences.{NoneHolds, AsListed}
+use Rattle.net.specs.Sides.{netSize}
 use Rattle.net.specs.Orderly.{Orderly}
 use Rattle.net.specs.Valid.{Valid}
 use Rattle.net.specs.declared.Net.{Net}
 use Rattle.walks.specs.Walk.{Passes}
-use Rattle.sequences.specs.Gain.{Fits, Gains}
+use Rattle.sequences.specs.Gain.{Fits, Gains, fits}
 use Rattle.sequences.specs.Learn.{learnMeans, learnRefusals, learnSays, learnGives}
 use Rattle.sequences.specs.Judge.{judgeMeans, judgeRefusals, judgeSays}
 use Rattle.sequences.specs.Follow.{followed, followRefusals, followSays, followGives}
@@ -46,8 +48,15 @@ pub record Learnable (net : Net) (ws : List ℕ) : Type 0 where
 abbrev pub NoneHoldsLearnable : Type 0
 NoneHoldsLearnable = (net : Net) (ws : List ℕ) → NoneHolds (learnRefusals net ws) ↔ Learnable net ws
 
+-- that is what learn accepts, and the number of new sets is the growth of the net's own lists
 abbrev pub LearnAccepts : Type 0
-LearnAccepts = (net : Net) (ws : List ℕ) → ((new : ℕ) × (learnSays net ws ≡ learnMeans (Learned new))) ↔ Learnable net ws
+LearnAccepts =
+    (net : Net) (ws : List ℕ) (new : ℕ)
+    → (learnSays net ws ≡ learnMeans (Learned new)) ↔ (Learnable net ws × (netSize (learnGives net ws) ≡ netSize net + new))
+
+-- the test that a sequence fits is the paper's, of a sequence that is well-formed
+abbrev pub FitsTestRight : Type 0
+FitsTestRight = (net : Net) (s : List Binding) → Orderly net → WellFormed (net .start) (net .end) s → (fits net s ≡ true) ↔ Fits net s
 
 -- an accepted learn returns the net with exactly the sequence's sets more
 abbrev pub LearnHolds : Type 0
