@@ -8,7 +8,8 @@ use lib.ListN.{length, drop}
 use Rattle.text.specs.Lines.{lines}
 use Rattle.text.specs.Inner.{lineEnd, nextLine}
 use Rattle.net.specs.Refusals.{outside-limits}
-use Rattle.logfile.specs.LogFile.{Reading, row, end, fault, unlessOn, rowAfter, afterHeader, sizesOk, RowRead}
+use Rattle.net.specs.Chains.{unlessBy}
+use Rattle.logfile.specs.LogFile.{Reading, row, end, fault, rowAfter, afterHeader, sizesOk, RowRead}
 use Rattle.logfile.specs.declared.Cursor.{Cursor}
 use Rattle.logfile.specs.declared.NextRow.{NextRow}
 
@@ -25,7 +26,7 @@ within text c = min (c .at) (length text)
 
 -- the row at a cursor
 unfoldable pub readNext : List ℕ → Cursor → ℕ → Reading
-readNext text c room = unlessOn (sizesOk text room) outside-limits 0 (fromLine (c .line) 0 (lines (drop (within text c) text)))
+readNext text c room = unlessBy fault (sizesOk text room) outside-limits 0 (fromLine (c .line) 0 (lines (drop (within text c) text)))
 
 -- where the row at a cursor starts: past the header, if that is the cursor's line
 unfoldable pub rowStart : List ℕ → Cursor → ℕ

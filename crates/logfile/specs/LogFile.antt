@@ -2,7 +2,7 @@
 -- before 3.
 use Prim.Native.Nat.{ℕ, zero, suc, _+_, _-_}
 use mathlib.Core.Path.{_≡_}
-use mathlib.Core.Bool.{Bool, _&&_, cond}
+use mathlib.Core.Bool.{Bool, _&&_}
 use mathlib.Core.List.{List, [], _∷_, _++_}
 use lib.Dec.{leb, ltb}
 use lib.ListN.{length, drop}
@@ -13,6 +13,7 @@ use Rattle.text.specs.Fields.{comma, space, split}
 use Rattle.text.specs.Decimal.{value, isNumber, allNumbers, values}
 use Rattle.text.specs.Members.{highest}
 use Rattle.net.specs.Refusals.{Says, accepted, refused, outside-limits, line-form, number-form}
+use Rattle.net.specs.Chains.{unlessBy}
 use Rattle.logfile.specs.Limits.{logBytes, logRows, mostSessions}
 use Rattle.logfile.specs.declared.RowAnswer.{RowAnswer}
 use Rattle.logfile.specs.declared.RowAnswer.the-variants.{Row, End, Refused}
@@ -22,10 +23,6 @@ pub data Reading : Type 0 where
   row : ℕ → List ℕ → Reading
   end : Reading
   fault : ℕ → ℕ → Reading
-
--- the rest if the test passes, else the refusal `number` on this line
-abbrev pub unlessOn : Bool → ℕ → ℕ → Reading → Reading
-unlessOn test number line rest = cond test rest (fault number line)
 
 -- ---- a row's line
 
@@ -42,8 +39,8 @@ entries (b ∷ s) = split space (b ∷ s)
 -- last row's
 unfoldable pub readFields : ℕ → List ℕ → List ℕ → Reading
 readFields n sessions trace =
-    unlessOn (isSessions sessions && allNumbers highest (entries trace)) number-form n
-    (unlessOn (leb (length (entries trace)) positions && leb n (logRows + 1)) outside-limits n
+    unlessBy fault (isSessions sessions && allNumbers highest (entries trace)) number-form n
+    (unlessBy fault (leb (length (entries trace)) positions && leb n (logRows + 1)) outside-limits n
     (row (value sessions) (values (entries trace))))
 
 -- line n: 13 unless it has one comma, and so two fields
@@ -77,7 +74,7 @@ logHeader = 115 ∷ 101 ∷ 115 ∷ 115 ∷ 105 ∷ 111 ∷ 110 ∷ 115 ∷ comm
 -- the row with k rows before it, after the header on line 1
 abbrev pub afterHeader : ℕ → List (List ℕ) → Reading
 afterHeader k [] = fault line-form 1
-afterHeader k (h ∷ ls) = unlessOn (sameBytes h logHeader) line-form 1 (rowAfter 2 k ls)
+afterHeader k (h ∷ ls) = unlessBy fault (sameBytes h logHeader) line-form 1 (rowAfter 2 k ls)
 
 -- the text's length and the buffer's are as they have to be
 unfoldable pub sizesOk : List ℕ → ℕ → Bool
@@ -85,7 +82,7 @@ sizesOk text room = leb (length text) logBytes && leb positions room
 
 -- row r of a log, counted from 1, for a buffer of so many words
 unfoldable pub readRow : List ℕ → ℕ → ℕ → Reading
-readRow text r room = unlessOn (ltb 0 r && sizesOk text room) outside-limits 0 (afterHeader (r - 1) (lines text))
+readRow text r room = unlessBy fault (ltb 0 r && sizesOk text room) outside-limits 0 (afterHeader (r - 1) (lines text))
 
 -- ---- what an answer says, and what the buffer holds then
 

@@ -2,7 +2,7 @@
 -- rows' sets besides what it held; and the three lines before the rows. By induction on the lines. Assumes nothing.
 use Prim.Native.Nat.{ℕ, _+_}
 use mathlib.Core.Path.{_≡_, refl, sym, ap, _∙_}
-use mathlib.Core.Bool.{Bool, true, false, cond}
+use mathlib.Core.Bool.{Bool, true, false, not, cond}
 use mathlib.Core.Logic.{_⊎_, inl, inr, ⊎-elim, _↔_}
 use mathlib.Core.List.{List, [], _∷_, List·Memᴰ·head, List·Memᴰ·tail, List·Memᴰ·not-nil, List·Memᴰ·cases-cons, List·Memᴰ}
 use lib.Dec.{leb, eqb}
@@ -13,6 +13,7 @@ use Rattle.text.specs.Bytes.{sameBytes}
 use Rattle.text.specs.Lines.{lines}
 use Rattle.text.proofs.ByteLaws.{same-equal}
 use Rattle.net.specs.Refusals.{Says, accepted, outside-limits, line-form}
+use Rattle.net.specs.Chains.{unlessBy}
 use Rattle.net.specs.Sides.{OnSide}
 use Rattle.net.specs.Orderly.{endsOk, orderly}
 use Rattle.net.specs.Fresh.{freshNet}
@@ -149,7 +150,7 @@ accepted-parts text h = size (leb (length text) netBytes) refl
     never n p e = false-not-true (ap (λ (r : Reading). r .says .ok) e) h
 
     ends : (start end : ℕ) (s e : List ℕ) (rs : List (List ℕ)) → readEnd startWord s ≡ Activity start → readEnd endWord e ≡ Activity end → lines text ≡ netHeader ∷ s ∷ e ∷ rs
-        → (t : Bool) (k n : ℕ) → eqb start end ≡ t → readNet text ≡ cond t (refusedAt k n) (readRows 4 (freshNet start end) rs) → FileParts text
+        → (t : Bool) (k n : ℕ) → eqb start end ≡ t → readNet text ≡ unlessBy refusedAt (not t) k n (readRows 4 (freshNet start end) rs) → FileParts text
     ends start end s e rs p q ls true k n d u = absurd (never k n u)
     ends start end s e rs p q ls false k n d u = record {
       start = start;
@@ -221,7 +222,7 @@ read-refused text h = whole (leb (length text) netBytes) (fromHeader (lines text
     third : (start : ℕ) (r : EndLine) (ls : List (List ℕ)) → Fresh (afterEnd start r ls)
     third start (Activity end) ls = equal (eqb start end) _ _
       where
-        equal : (t : Bool) (k n : ℕ) → Fresh (cond t (refusedAt k n) (readRows 4 (freshNet start end) ls))
+        equal : (t : Bool) (k n : ℕ) → Fresh (unlessBy refusedAt (not t) k n (readRows 4 (freshNet start end) ls))
         equal true k n = λ q. refl
         equal false k n = rows-refused 4 (freshNet start end) ls
     third start (Refused k) ls = λ q. refl

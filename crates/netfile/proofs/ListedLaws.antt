@@ -22,6 +22,7 @@ use Rattle.net.specs.Refusals.{Says, accepted, refused, bad-ends, outside-limit
 use Rattle.net.specs.Limits.{sets}
 use Rattle.net.specs.Sentences.{NoneHolds, orderOnLine, AsListedByLine}
 use Rattle.net.specs.Lists.{listed, AtMost}
+use Rattle.net.specs.Chains.{unlessBy}
 use Rattle.net.specs.Sides.{emptyAt, OnSide}
 use Rattle.net.specs.Orderly.{orderly}
 use Rattle.net.specs.Fresh.{freshNet}
@@ -214,7 +215,7 @@ module _ (text : List ℕ) where
   third-told start ls s has e (end-number f w) = stops 3 number-form (inr (not-whole (⊎-elim (λ m. m has) f), inl (refl, holds-whole w)))
   third-told start ls s has e (end-row end f g i) = go (eqb start end) refl
     where
-      go : (t : Bool) → eqb start end ≡ t → Told 3 (cond t (refusedAt bad-ends 3) (readRows 4 (freshNet start end) ls) .says)
+      go : (t : Bool) → eqb start end ≡ t → Told 3 (unlessBy refusedAt (not t) bad-ends 3 (readRows 4 (freshNet start end) ls) .says)
       go true q =
           stops 3 bad-ends
           (inr (not-whole (⊎-elim (λ m. m has) f), inr (not-whole g, inl (refl, holds-whole (record { activity = start; is-start = s; is-end = rw (eqb-true start end q) i })))))

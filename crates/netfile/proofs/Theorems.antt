@@ -28,10 +28,10 @@ use Rattle.net.proofs.OrderlyLaws.{ends-facts, orderly-ends, orderly-sides, ord
 use Rattle.net.proofs.FreshLaws.{fresh-start, fresh-end, fresh-on-side, fresh-orderly}
 use Rattle.net.proofs.PutLaws.{put-says-side}
 use Rattle.net.proofs.WithinLaws.{contained-same, put-accepts-within, put-keeps-within, same-empty}
-use Rattle.net.proofs.SentenceLaws.{told-end, whole-link, chain-listed, accepted-not-refused}
+use Rattle.net.proofs.SentenceLaws.{Told, told-end, told-value, whole-link, chain-listed, accepted-not-refused}
 use Rattle.net.proofs.CommonLaws.{orderly-link}
 use Rattle.netfile.specs.NetFile.{readRow, rowSays, rowGives, Reading, readAs, readRows, fromEnd, fromStart, fromHeader, readNet, activityLines, headLines, netLines, netText, writeRefusals, writeSays, writeGives}
-use Rattle.netfile.specs.Statements.{NetListed, WriteListed, RefusedFresh, LinesRead, HasRow, NetAccepted, ReadSaid, SameRowsSameNet, ReadOrderly, RowSaysSide, RoundTrip, WrittenRead, ReadAgain}
+use Rattle.netfile.specs.Statements.{NetListed, WriteListed, WriteSaid, RefusedFresh, LinesRead, HasRow, NetAccepted, ReadSaid, SameRowsSameNet, ReadOrderly, RowSaysSide, RoundTrip, WrittenRead, ReadAgain}
 use Rattle.netfile.proofs.PutRowLaws.{row-orderly}
 use Rattle.netfile.proofs.FileLaws.{read-short}
 use Rattle.netfile.proofs.TextLaws.{net-short}
@@ -153,14 +153,19 @@ written-front net buf n = go (orderly net) (leb (length (netText net)) (length b
 pub written-read : WrittenRead
 written-read net buf n w e = let f = written-front net buf n e in ap readNet (f .1) ∙ sets-back net (f .0) (set-is-mask net w)
 
-pub write-listed : WriteListed
+write-told : (net : Net) (room : ℕ) → Told refused (writeRefusals net room) (accepted (length (netText net))) (writeSays net room)
 unfolding writeSays
-write-listed net room =
-    chain-listed (writeRefusals net room) refl (length (netText net))
-    (orderly-link refused (accepted (length (netText net))) _ _ net
+write-told net room =
+    orderly-link refused (accepted (length (netText net))) _ _ net
     (λ o. whole-link refused (accepted (length (netText net))) text-too-long (room < length (netText net)) [] (leb (length (netText net)) room) _
     (λ e h. let k = leb-true (length (netText net)) room e in omega arith) (leb-false (length (netText net)) room)
-    (λ e. told-end refused (accepted (length (netText net))))))
+    (λ e. told-end refused (accepted (length (netText net)))))
+
+pub write-listed : WriteListed
+write-listed net room = chain-listed (writeRefusals net room) refl (length (netText net)) (write-told net room)
+
+pub write-said : WriteSaid
+write-said net room n = told-value (writeRefusals net room) (length (netText net)) n (write-told net room)
 
 -- ---- whatever is read
 

@@ -3,7 +3,7 @@
 -- and the end one after the other.
 use Prim.Native.Nat.{ℕ, zero, suc, _+_, _<_}
 use mathlib.Core.Path.{_≡_}
-use mathlib.Core.Bool.{_&&_, cond}
+use mathlib.Core.Bool.{_&&_, not, cond}
 use mathlib.Core.List.{List, [], _∷_, _++_}
 use lib.Dec.{leb, eqb}
 use lib.ListN.{length, drop}
@@ -19,7 +19,7 @@ use Rattle.text.specs.declared.members.Members.{Members}
 use Rattle.text.specs.declared.members.Members.the-variants as members
 use Rattle.net.specs.Refusals.{Says, accepted, refused, bad-ends, disorderly, outside-limits, line-form, number-form, text-too-long}
 use Rattle.net.specs.Sentences.{Sentence, whole}
-use Rattle.net.specs.Chains.{unless}
+use Rattle.net.specs.Chains.{unlessBy, unless}
 use Rattle.net.specs.Common.{notOrderly}
 use Rattle.net.specs.Sides.{setsOn}
 use Rattle.net.specs.Orderly.{orderly}
@@ -130,11 +130,12 @@ refusedAt n line = record { says = netMeans (net-answer.Refused n line); net = f
 unfoldable pub readRows : ℕ → Net → List (List ℕ) → Reading
 readRows n net [] = readAs net
 readRows n net (l ∷ ls) =
-    cond (rowSays net (readRow l) .ok) (readRows (n + 1) (rowGives net (readRow l)) ls) (refusedAt (rowSays net (readRow l) .refusal) n)
+    unlessBy refusedAt (rowSays net (readRow l) .ok) (rowSays net (readRow l) .refusal) n
+    (readRows (n + 1) (rowGives net (readRow l)) ls)
 
 -- line 3, the end row: 1 if the start is the end
 abbrev pub afterEnd : ℕ → EndLine → List (List ℕ) → Reading
-afterEnd start (end-line.Activity end) ls = cond (eqb start end) (refusedAt bad-ends 3) (readRows 4 (freshNet start end) ls)
+afterEnd start (end-line.Activity end) ls = unlessBy refusedAt (not (eqb start end)) bad-ends 3 (readRows 4 (freshNet start end) ls)
 afterEnd start (end-line.Refused n) ls = refusedAt n 3
 
 unfoldable pub fromEnd : ℕ → List (List ℕ) → Reading
@@ -153,10 +154,10 @@ fromStart (l ∷ ls) = afterStart (readEnd startWord l) ls
 -- line 1, the header
 unfoldable pub fromHeader : List (List ℕ) → Reading
 fromHeader [] = refusedAt line-form 1
-fromHeader (l ∷ ls) = cond (sameBytes l netHeader) (fromStart ls) (refusedAt line-form 1)
+fromHeader (l ∷ ls) = unlessBy refusedAt (sameBytes l netHeader) line-form 1 (fromStart ls)
 
 unfoldable pub readNet : List ℕ → Reading
-readNet text = cond (leb (length text) netBytes) (fromHeader (lines text)) (refusedAt outside-limits 0)
+readNet text = unlessBy refusedAt (leb (length text) netBytes) outside-limits 0 (fromHeader (lines text))
 
 -- an answer and a net are what was to be read
 pub record Reads (d : Reading) (r : NetReading) : Type 0 where

@@ -7,7 +7,7 @@ use lib.ListN.{length, take}
 use Rattle.obligations.specs.Limits.{activities}
 use Rattle.text.specs.Lines.{lines}
 use Rattle.net.specs.Limits.{sets}
-use Rattle.net.specs.Sentences.{AsListed, AsListedByLine}
+use Rattle.net.specs.Sentences.{NoneHolds, AsListed, AsListedByLine}
 use Rattle.net.specs.Lists.{AtMost}
 use Rattle.net.specs.Sides.{masksOf, lengthsOf, emptyAt, OnSide, Masks}
 use Rattle.net.specs.Orderly.{Orderly}
@@ -31,6 +31,11 @@ NetListed = (text : List ℕ) → AsListedByLine (λ n p. netMeans (Refused n p)
 
 abbrev pub WriteListed : Type 0
 WriteListed = (net : Net) (room : ℕ) → AsListed (λ n p. writeMeans (write-answer.Refused n p)) (writeRefusals net room) (writeSays net room)
+
+-- the writer is accepted exactly if no refusal holds, with the text's length
+abbrev pub WriteSaid : Type 0
+WriteSaid =
+    (net : Net) (room n : ℕ) → (writeSays net room ≡ writeMeans (write-answer.Written n)) ↔ (NoneHolds (writeRefusals net room) × (n ≡ length (netText net)))
 
 -- a refused reading returns the fresh net of 0 and 1
 abbrev pub RefusedFresh : Type 0

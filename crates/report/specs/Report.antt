@@ -1,7 +1,6 @@
 -- What the program prints (01, "The tables", last part): for the bytes of a net file and of a log file, the bytes of the
 -- report. The net's size is tested first, then its lines, the net check, the log's size and the log's lines.
 use Prim.Native.Nat.{ℕ, zero, suc, _+_}
-use mathlib.Core.Bool.{cond}
 use mathlib.Core.List.{List, [], _∷_, _++_}
 use lib.Dec.{leb}
 use lib.ListN.{length}
@@ -10,6 +9,7 @@ use Rattle.text.specs.Lines.{unlines}
 use Rattle.text.specs.Fields.{comma, join}
 use Rattle.text.specs.Decimal.{printNumber}
 use Rattle.net.specs.Refusals.{Says, outside-limits}
+use Rattle.net.specs.Chains.{unlessBy}
 use Rattle.net.specs.declared.Net.{Net}
 use Rattle.walks.specs.Check.{checkSays}
 use Rattle.netfile.specs.NetFile.{readNet}
@@ -91,15 +91,14 @@ logSays log = readingSays (readRow log (logRows + 1) positions) .says
 -- for a net that has been checked
 unfoldable pub logText : Net → List ℕ → List ℕ
 logText net log =
-    cond (leb (length log) fileBytes)
-    (cond (logSays log .ok) (unlines (reportHeader ∷ []) ++ rowsText net log logRows 1) (refusalText logWord (logSays log .refusal) (logSays log .place)))
-    (refusalText logWord outside-limits 0)
+    unlessBy (refusalText logWord) (leb (length log) fileBytes) outside-limits 0
+    (unlessBy (refusalText logWord) (logSays log .ok) (logSays log .refusal) (logSays log .place)
+    (unlines (reportHeader ∷ []) ++ rowsText net log logRows 1))
 
 -- a refusal of the net check has no line
 unfoldable pub reportText : List ℕ → List ℕ → List ℕ
 reportText net log =
-    cond (leb (length net) fileBytes)
-    (cond (readNet net .says .ok)
-    (cond (checkSays (readNet net .net) .ok) (logText (readNet net .net) log) (refusalText netWord (checkSays (readNet net .net) .refusal) 0))
-    (refusalText netWord (readNet net .says .refusal) (readNet net .says .place)))
-    (refusalText netWord outside-limits 0)
+    unlessBy (refusalText netWord) (leb (length net) fileBytes) outside-limits 0
+    (unlessBy (refusalText netWord) (readNet net .says .ok) (readNet net .says .refusal) (readNet net .says .place)
+    (unlessBy (refusalText netWord) (checkSays (readNet net .net) .ok) (checkSays (readNet net .net) .refusal) 0
+    (logText (readNet net .net) log)))
