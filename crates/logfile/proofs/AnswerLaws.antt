@@ -15,9 +15,9 @@ use Rattle.text.specs.Decimal.{value, allNumbers, values}
 use Rattle.text.specs.Members.{highest}
 use Rattle.text.proofs.DecimalLaws.{number-most, values-most}
 use Rattle.logfile.specs.Limits.{logRows, mostSessions}
-use Rattle.logfile.specs.LogFile.{Reading, row, end, fault, isSessions, entries, readFields, readParts, readLine, past, rowMeans, readingSays, readingLeaves, RowRead}
+use Rattle.logfile.specs.LogFile.{RowReading, row, end, fault, isSessions, entries, readFields, readParts, readLine, past, rowMeans, readingSays, readingLeaves, RowRead}
 use Rattle.logfile.specs.Refusals.{rowText}
-use Rattle.logfile.specs.Row.{answerOf, isRow, Filled, IsRow, second}
+use Rattle.logfile.specs.Row.{answerOf, isRow, TraceFilled, IsLogRow, second}
 use Rattle.logfile.specs.declared.RowAnswer.{RowAnswer}
 use Rattle.logfile.proofs.PrintLaws.{sessions-number, row-printed}
 
@@ -74,39 +74,39 @@ pub line-entries : {n : ℕ} {l : List ℕ} {s : ℕ} {t : List ℕ} → LineRow
 line-entries r k m = values-most highest (entries (r .trace)) (r .numbers) k (rw (r .trace-is) at m)
 
 -- it can be written to a buffer of 64 words, and what is then there is its trace
-pub line-is-row : {n : ℕ} {l : List ℕ} {s : ℕ} {t : List ℕ} (room : ℕ) → LineRow n l s t → positions ≤ room → IsRow l room
+pub line-is-row : {n : ℕ} {l : List ℕ} {s : ℕ} {t : List ℕ} (room : ℕ) → LineRow n l s t → positions ≤ room → IsLogRow l room
 line-is-row room r h = record { sessions = r .first; trace = r .trace; fields = r .fields; is-trace = record { numbers = r .numbers; few = omega (arith, r .few) } }
 
-pub line-filled : {n : ℕ} {l : List ℕ} {s : ℕ} {t : List ℕ} (out₀ out : List ℕ) → LineRow n l s t → Filled (second (split comma l)) out₀ out → out ≡ readingLeaves (row s t) out₀
+pub line-filled : {n : ℕ} {l : List ℕ} {s : ℕ} {t : List ℕ} (out₀ out : List ℕ) → LineRow n l s t → TraceFilled (second (split comma l)) out₀ out → out ≡ readingLeaves (row s t) out₀
 line-filled {n} {l} {s} {t} out₀ out r f =
     let g : out ≡ values (entries (r .trace)) ++ drop (length (entries (r .trace))) out₀ = rw (r .fields) at f in
     rw (r .trace-is, length-map (entries (r .trace)) value) g
 
 -- ---- answers
 
-answer-says : (x : Reading) → rowMeans (answerOf x) ≡ readingSays x
+answer-says : (x : RowReading) → rowMeans (answerOf x) ≡ readingSays x
 answer-says (row s t) = refl
 answer-says end = refl
 answer-says (fault n p) = refl
 
 -- an answer that is no row leaves the buffer, and is the answer for every row from there on
-stays-leaves : (x : Reading) (out : List ℕ) → isRow (answerOf x) ≡ false → out ≡ readingLeaves x out
+stays-leaves : (x : RowReading) (out : List ℕ) → isRow (answerOf x) ≡ false → out ≡ readingLeaves x out
 stays-leaves (row s t) out q = absurd (false-not-true q refl)
 stays-leaves end out q = refl
 stays-leaves (fault n p) out q = refl
 
-pub stays-past : (x r : Reading) → isRow (answerOf x) ≡ false → past x r ≡ x
+pub stays-past : (x r : RowReading) → isRow (answerOf x) ≡ false → past x r ≡ x
 stays-past (row s t) r q = absurd (false-not-true q refl)
 stays-past end r q = refl
 stays-past (fault n p) r q = refl
 
-pub row-given : (x : Reading) → isRow (answerOf x) ≡ true → (s : ℕ) × (t : List ℕ) × (x ≡ row s t)
+pub row-given : (x : RowReading) → isRow (answerOf x) ≡ true → (s : ℕ) × (t : List ℕ) × (x ≡ row s t)
 row-given (row s t) q = (s, t, refl)
 row-given end q = absurd (false-not-true refl q)
 row-given (fault n p) q = absurd (false-not-true refl q)
 
-pub read-stays : (x : Reading) (r : RowAnswer) (out₀ out : List ℕ) → r ≡ answerOf x → isRow r ≡ false → out ≡ out₀ → RowRead x out₀ r out
+pub read-stays : (x : RowReading) (r : RowAnswer) (out₀ out : List ℕ) → r ≡ answerOf x → isRow r ≡ false → out ≡ out₀ → RowRead x out₀ r out
 read-stays x r out₀ out e q o = record { says = ap rowMeans e ∙ answer-says x; leaves = o ∙ stays-leaves x out₀ (ap isRow (sym e) ∙ q) }
 
-pub read-given : (x : Reading) (r : RowAnswer) (s : ℕ) (t out₀ out₁ out : List ℕ) → r ≡ answerOf x → x ≡ row s t → out₁ ≡ out₀ → out ≡ readingLeaves (row s t) out₁ → RowRead x out₀ r out
+pub read-given : (x : RowReading) (r : RowAnswer) (s : ℕ) (t out₀ out₁ out : List ℕ) → r ≡ answerOf x → x ≡ row s t → out₁ ≡ out₀ → out ≡ readingLeaves (row s t) out₁ → RowRead x out₀ r out
 read-given x r s t out₀ out₁ out e q o w = record { says = ap rowMeans e ∙ answer-says x; leaves = rw (q, ← o) w }

@@ -21,9 +21,9 @@ use Rattle.text.specs.Decimal.{value, allNumbers, values}
 use Rattle.text.specs.Members.{highest}
 use Rattle.net.specs.Refusals.{outside-limits, line-form, number-form}
 use Rattle.logfile.specs.Limits.{logRows}
-use Rattle.logfile.specs.LogFile.{Reading, row, end, fault, isSessions, entries, readFields, readParts, readLine, past, rowAfter, logHeader, afterHeader, sizesOk, readRow}
+use Rattle.logfile.specs.LogFile.{RowReading, row, end, fault, isSessions, entries, readFields, readParts, readLine, past, rowAfter, logHeader, afterHeader, sizesOk, readRow}
 use Rattle.logfile.specs.Refusals.{LineIs}
-use Rattle.logfile.specs.Cursor.{start, fromLine, within, readNext, rowStart, cursorAfter, Reached, at-start, one-more}
+use Rattle.logfile.specs.Cursor.{start, fromLine, standing, readNext, rowStart, cursorAfter, Reached, at-start, one-more}
 use Rattle.logfile.specs.Row.{begun}
 use Rattle.logfile.specs.declared.Cursor.{Cursor}
 use Rattle.logfile.specs.declared.Begun.{Begun}
@@ -40,7 +40,7 @@ fault-no-row e = let z : _≡_ {A = ℕ} 0 1 = cc in omega arith
 end-no-fault : {n p : ℕ} → end ≡ fault n p → ⊥
 end-no-fault e = let z : _≡_ {A = ℕ} 0 1 = cc in omega arith
 
-past-row : (x y : Reading) (s : ℕ) (t : List ℕ) → past x y ≡ row s t → y ≡ row s t
+past-row : (x y : RowReading) (s : ℕ) (t : List ℕ) → past x y ≡ row s t → y ≡ row s t
 past-row (row a b) y s t e = e
 past-row end y s t e = absurd (end-no-row e)
 past-row (fault n p) y s t e = absurd (fault-no-row e)
@@ -78,13 +78,13 @@ no-line n k [] e = omega arith
 no-line n zero (l ∷ ls) e = absurd (line-no-end n l e)
 no-line n (suc k) (l ∷ ls) e = go (readLine n l) (line-no-end n l) (no-line (n + 1) k ls) e
   where
-    go : (x : Reading) → (x ≡ end → ⊥) → (rowAfter (n + 1) k ls ≡ end → length ls ≤ k) → past x (rowAfter (n + 1) k ls) ≡ end → suc (length ls) ≤ suc k
+    go : (x : RowReading) → (x ≡ end → ⊥) → (rowAfter (n + 1) k ls ≡ end → length ls ≤ k) → past x (rowAfter (n + 1) k ls) ≡ end → suc (length ls) ≤ suc k
     go (row s t) f ih e = omega (arith, ih e)
     go end f ih e = absurd (f refl)
     go (fault m p) f ih e = absurd (end-no-fault (sym e))
 
 -- what isn't refused was asked for, with a text and a buffer that fit, and is read from the rows after the right header
-record FromRows (text : List ℕ) (r : ℕ) (x : Reading) : Type 0 where
+record FromRows (text : List ℕ) (r : ℕ) (x : RowReading) : Type 0 where
   asked : 1 ≤ r
   header : List ℕ
   rows : List (List ℕ)
@@ -92,7 +92,7 @@ record FromRows (text : List ℕ) (r : ℕ) (x : Reading) : Type 0 where
   reads : rowAfter 2 (r - 1) rows ≡ x
 
 module _ (text : List ℕ) (r room : ℕ) where
-  from-rows : (x : Reading) → ((n p : ℕ) → x ≡ fault n p → ⊥) → readRow text r room ≡ x → FromRows text r x
+  from-rows : (x : RowReading) → ((n p : ℕ) → x ≡ fault n p → ⊥) → readRow text r room ≡ x → FromRows text r x
   unfolding readRow
   from-rows x f = go (ltb 0 r && sizesOk text room) refl
     where
@@ -124,7 +124,7 @@ module _ (text : List ℕ) (r room : ℕ) where
 
 -- ---- a row that isn't given, and those after it
 
-past-stays : (x y : Reading) → ((s : ℕ) (t : List ℕ) → x ≡ row s t → ⊥) → past x y ≡ x
+past-stays : (x y : RowReading) → ((s : ℕ) (t : List ℕ) → x ≡ row s t → ⊥) → past x y ≡ x
 past-stays (row s t) y h = absurd (h s t refl)
 past-stays end y h = refl
 past-stays (fault n p) y h = refl
@@ -136,7 +136,7 @@ stays-after n zero zero (l ∷ ls) h = refl
 stays-after n zero (suc j) (l ∷ ls) h = rw (zero-add (suc j)) (past-stays (readLine n l) (rowAfter (n + 1) j ls) h)
 stays-after n (suc k) j (l ∷ ls) h = rw (suc-add k j) (go (readLine n l) h (λ g. stays-after (n + 1) k j ls g))
   where
-    go : (x : Reading) → ((s : ℕ) (t : List ℕ) → past x (rowAfter (n + 1) k ls) ≡ row s t → ⊥)
+    go : (x : RowReading) → ((s : ℕ) (t : List ℕ) → past x (rowAfter (n + 1) k ls) ≡ row s t → ⊥)
         → (((s : ℕ) (t : List ℕ) → rowAfter (n + 1) k ls ≡ row s t → ⊥) → rowAfter (n + 1) (k + j) ls ≡ rowAfter (n + 1) k ls)
         → past x (rowAfter (n + 1) (k + j) ls) ≡ past x (rowAfter (n + 1) k ls)
     go (row s t) g ih = ih g
@@ -168,27 +168,27 @@ later-same text r q room h l = rw (lt-ltb 0 r h, lt-ltb 0 q (omega arith)) (go (
 pub record Row (text : List ℕ) (c : Cursor) (s : ℕ) (t : List ℕ) : Type 0 where
   pub i : ℕ
   pub n : ℕ
-  pub passed : Passed text (within text c) (c .line) i n
+  pub passed : Passed text (standing text c) (c .line) i n
   pub inside : i < length text
   pub reads : readLine n (slice i (lineEnd text i) text) ≡ row s t
 
 row-at : (text : List ℕ) (c : Cursor) (room s : ℕ) (t : List ℕ) → readNext text c room ≡ row s t → (sizesOk text room ≡ true) × Row text c s t
 row-at text c room s t e = fit (sizesOk text room) refl
   where
-    at : sizesOk text room ≡ true → (b : Begun) → begun text (within text c) (c .line) ≡ b → Row text c s t
+    at : sizesOk text room ≡ true → (b : Begun) → begun text (standing text c) (c .line) ≡ b → Row text c s t
     at f Differs b = absurd (fault-no-row (sym (next-differs text c room f b) ∙ e))
     at f (At i n) b =
-        let p = begun-passed text (within text c) (c .line) i n (omega arith) b in
+        let p = begun-passed text (standing text c) (c .line) i n (omega arith) b in
         ⊎-elim
         (λ h. record { i = i; n = n; passed = p; inside = h; reads = sym (next-here text c room f i n p (lineEnd text i) h refl) ∙ e })
         (λ h. absurd (end-no-row (sym (next-end text c room f i n p h) ∙ e)))
         (lt-or-le i (length text))
 
     fit : (b : Bool) → sizesOk text room ≡ b → (sizesOk text room ≡ true) × Row text c s t
-    fit true f = (f, at f (begun text (within text c) (c .line)) refl)
+    fit true f = (f, at f (begun text (standing text c) (c .line)) refl)
     fit false f = absurd (fault-no-row (sym (next-unfit text c room f) ∙ e))
 
-start-at : (text : List ℕ) (c : Cursor) (i n : ℕ) → Passed text (within text c) (c .line) i n → rowStart text c ≡ i
+start-at : (text : List ℕ) (c : Cursor) (i n : ℕ) → Passed text (standing text c) (c .line) i n → rowStart text c ≡ i
 unfolding rowStart
 start-at text c i n p = sym (p .start-is)
 
@@ -198,11 +198,11 @@ from-row n k ls h = rw (lt-ltb 1 n h)
 
 -- row k + 1 and those after it are read from the cursor on
 abbrev Stands : List ℕ → ℕ → ℕ → Cursor → Type 0
-Stands text room k c = (j : ℕ) → readRow text (suc k + j) room ≡ fromLine (c .line) j (lines (drop (within text c) text))
+Stands text room k c = (j : ℕ) → readRow text (suc k + j) room ≡ fromLine (c .line) j (lines (drop (standing text c) text))
 
 stands-start : (text : List ℕ) (room : ℕ) → sizesOk text room ≡ true → Stands text room 0 start
 stands-start text room f j =
-    let z : within text start ≡ 0 = omega arith in
+    let z : standing text start ≡ 0 = omega arith in
     let e : 1 + j - 1 ≡ j = omega arith in
     rw z (row-start text (1 + j) room (omega arith) f ∙ ap (λ (k : ℕ). fromLine 1 k (lines (drop 0 text))) e)
 
@@ -210,13 +210,13 @@ stands-more : (text : List ℕ) (room k : ℕ) (c : Cursor) (s : ℕ) (t : List 
 stands-more text room k c s t h r j =
     let e : ℕ = lineEnd text (r .i) in
     let u : suc (suc k) + j ≡ suc k + suc j = omega arith in
-    let w : within text (cursorAfter text c (row s t)) ≡ nextLine text e = ap (λ (i : ℕ). min (nextLine text (lineEnd text i)) (length text)) (start-at text c (r .i) (r .n) (r .passed)) ∙ omega arith in
+    let w : standing text (cursorAfter text c (row s t)) ≡ nextLine text e = ap (λ (i : ℕ). min (nextLine text (lineEnd text i)) (length text)) (start-at text c (r .i) (r .n) (r .passed)) ∙ omega arith in
     let m : max 2 (c .line) ≡ r .n = sym (r .passed .line-is) in
     ap (λ (q : ℕ). readRow text q room) u
     ∙ h (suc j)
     ∙ r .passed .reads (suc j)
     ∙ rows-past text (r .i) (r .n) e j (r .inside) refl
-    ∙ ap (λ (x : Reading). past x (rowAfter (r .n + 1) j (lines (drop (nextLine text e) text)))) (r .reads)
+    ∙ ap (λ (x : RowReading). past x (rowAfter (r .n + 1) j (lines (drop (nextLine text e) text)))) (r .reads)
     ∙ sym (rw (w, m) (from-row (r .n + 1) j (lines (drop (nextLine text e) text)) (omega (arith, r .passed .low))))
 
 reached-stands : (text : List ℕ) (room k : ℕ) (c : Cursor) → sizesOk text room ≡ true → Reached text room k c → Stands text room k c
@@ -227,6 +227,6 @@ pub cursor-reads-next : (text : List ℕ) (room k : ℕ) (c : Cursor) → Reache
 unfolding readNext
 cursor-reads-next text room k c w = go (sizesOk text room) refl
   where
-    go : (b : Bool) → sizesOk text room ≡ b → cond b (fromLine (c .line) 0 (lines (drop (within text c) text))) (fault outside-limits 0) ≡ readRow text (suc k) room
+    go : (b : Bool) → sizesOk text room ≡ b → cond b (fromLine (c .line) 0 (lines (drop (standing text c) text))) (fault outside-limits 0) ≡ readRow text (suc k) room
     go true f = sym (rw (add-zero (suc k)) at (reached-stands text room k c f w 0))
     go false f = sym (row-unfit text (suc k) room f)

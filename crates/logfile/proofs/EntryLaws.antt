@@ -10,7 +10,7 @@ use native.Mathlib.Omega.{arith}
 use lib.ListN.{length, set, drop, length-set, length-map}
 use lib.Seq.{slice, slice-empty, sets, sets-eq}
 use Rattle.obligations.proofs.BoolLaws.{and-left, and-right}
-use Rattle.text.specs.Bytes.{before}
+use Rattle.text.specs.Bytes.{bytesBefore}
 use Rattle.text.specs.Fields.{space, split}
 use Rattle.text.specs.Decimal.{value, isNumber, parseNumber, allNumbers, values}
 use Rattle.text.specs.Members.{highest}
@@ -19,7 +19,7 @@ use Rattle.text.proofs.ByteLaws.{slice-step}
 use Rattle.text.proofs.FieldLaws.{part-head, part-last, part-more, length-split}
 use Rattle.text.proofs.DecimalLaws.{number-value, number-refused}
 use Rattle.logfile.specs.LogFile.{entries}
-use Rattle.logfile.specs.Row.{countEntries, IsTrace, Filled}
+use Rattle.logfile.specs.Row.{countEntries, IsTrace, TraceFilled}
 use Rattle.logfile.specs.declared.row.Entries.the-variants as counted
 
 -- ---- the entries of a trace field
@@ -71,7 +71,7 @@ pub record Counting (s : List ℕ) (i e at n : ℕ) : Type 0 where
 pub counting-start : (s : List ℕ) (i e : ℕ) → i < e → e ≤ length s → Counting s i e i 0
 counting-start s i e h t = record { some = h; inside = t; within = omega arith; few = omega arith; total = zero-add (length (split space (slice i e s))); numbers = refl }
 
-module _ (s : List ℕ) (i e at n j : ℕ) (c : Counting s i e at n) (q : j ≡ at + before space (slice at e s)) where
+module _ (s : List ℕ) (i e at n j : ℕ) (c : Counting s i e at n) (q : j ≡ at + bytesBefore space (slice at e s)) where
   pub counting-refused : parseNumber highest (slice at j s) ≡ number.Refused → countEntries (slice i e s) ≡ counted.Refused
   counting-refused r =
       let f : allNumbers highest (split space (slice at e s)) ≡ false = rw (part-head space s at e j (c .within) (c .inside) q, number-refused highest (slice at j s) r) in
@@ -112,7 +112,7 @@ pub record Filling (s : List ℕ) (i e : ℕ) (out₀ : List ℕ) (at k : ℕ) (
   pub numbers : allNumbers highest (split space (slice at e s)) ≡ true
   pub text : sets out k (values (split space (slice at e s))) ≡ sets out₀ 0 (values (split space (slice i e s)))
 
-pub filled-none : (t out : List ℕ) → entries t ≡ [] → Filled t out out
+pub filled-none : (t out : List ℕ) → entries t ≡ [] → TraceFilled t out out
 filled-none t out q = rw q
 
 pub filling-start : (s : List ℕ) (i e : ℕ) (out : List ℕ) → i < e → e ≤ length s → IsTrace (slice i e s) (length out) → Filling s i e out i 0 out
@@ -129,7 +129,7 @@ filling-start s i e out h t f =
       text = refl;
     }
 
-module _ (s : List ℕ) (i e : ℕ) (out₀ : List ℕ) (at k : ℕ) (out : List ℕ) (j : ℕ) (c : Filling s i e out₀ at k out) (q : j ≡ at + before space (slice at e s)) where
+module _ (s : List ℕ) (i e : ℕ) (out₀ : List ℕ) (at k : ℕ) (out : List ℕ) (j : ℕ) (c : Filling s i e out₀ at k out) (q : j ≡ at + bytesBefore space (slice at e s)) where
   pub filling-number : isNumber highest (slice at j s) ≡ true
   filling-number =
       let p = part-head space s at e j (c .within) (c .inside) q in
@@ -153,7 +153,7 @@ module _ (s : List ℕ) (i e : ℕ) (out₀ : List ℕ) (at k : ℕ) (out : List
           text = rw (v, add-one k) (rw p at (c .text));
         }
 
-    pub filling-last : j ≡ e → Filled (slice i e s) out₀ (set out k w)
+    pub filling-last : j ≡ e → TraceFilled (slice i e s) out₀ (set out k w)
     filling-last u =
         let p = part-last space s at e j (c .within) (c .inside) q u in
         let t : set out k w ≡ sets out₀ 0 (values (split space (slice i e s))) = rw v (rw p at (c .text)) in

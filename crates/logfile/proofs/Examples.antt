@@ -7,7 +7,7 @@ use Rattle.net.specs.Refusals.{outside-limits, line-form, number-form}
 use Rattle.text.specs.Lines.{cr, lf, unlines}
 use Rattle.text.specs.Fields.{comma, space, join}
 use Rattle.text.specs.Decimal.{isNumber}
-use Rattle.logfile.specs.LogFile.{Reading, row, end, fault, isSessions, readFields, readLine, rowAfter, logHeader, sizesOk, readRow}
+use Rattle.logfile.specs.LogFile.{RowReading, row, end, fault, isSessions, readFields, readLine, rowAfter, logHeader, sizesOk, readRow}
 
 -- the digits 0 to 4
 abbrev d0 : ℕ
@@ -23,7 +23,7 @@ abbrev d3 : ℕ
 d3 = 51
 
 -- row r of a log of these lines, for a buffer of 64 words
-read : List (List ℕ) → ℕ → Reading
+read : List (List ℕ) → ℕ → RowReading
 unfolding readRow sizesOk rowAfter readLine readFields isSessions isNumber
 read ls r = readRow (unlines (logHeader ∷ ls)) r 64
 

@@ -19,9 +19,9 @@ use Rattle.text.specs.Lines.{lines}
 use Rattle.text.specs.Inner.{lineEnd, nextLine}
 use Rattle.text.proofs.LineLaws.{lines-step, lines-end}
 use Rattle.logfile.specs.Limits.{logBytes, logRows}
-use Rattle.logfile.specs.LogFile.{Reading, row, end, fault, readLine, past, rowAfter, logHeader, afterHeader, sizesOk, readRow}
+use Rattle.logfile.specs.LogFile.{RowReading, row, end, fault, readLine, past, rowAfter, logHeader, afterHeader, sizesOk, readRow}
 use Rattle.logfile.specs.Row.{begun, answerOf, isRow}
-use Rattle.logfile.specs.Cursor.{fromLine, within, readNext, rowStart, cursorAfter}
+use Rattle.logfile.specs.Cursor.{fromLine, standing, readNext, rowStart, cursorAfter}
 use Rattle.logfile.specs.declared.Cursor.{Cursor}
 use Rattle.logfile.specs.declared.Begun.the-variants.{At, Differs}
 use Rattle.logfile.proofs.AnswerLaws.{line-row, stays-past}
@@ -177,7 +177,7 @@ module _ (text : List ℕ) (r room i n : ℕ) (g : Going text r room i n) where
           low = omega (arith, g .low);
           high = omega (arith, w .line-low);
           ahead = omega (arith, g .ahead);
-          reads = rw m (going-past z ∙ ap (λ (y : Reading). past y (rowAfter (n + 1) (r + 1 - (n + 1)) (lines (drop (nextLine text e) text)))) x);
+          reads = rw m (going-past z ∙ ap (λ (y : RowReading). past y (rowAfter (n + 1) (r + 1 - (n + 1)) (lines (drop (nextLine text e) text)))) x);
         }
 
 -- ---- reading at a cursor
@@ -188,26 +188,26 @@ module _ (text : List ℕ) (c : Cursor) (room : ℕ) where
   next-unfit f = rw f
 
   module _ (f : sizesOk text room ≡ true) where
-    next-fit : readNext text c room ≡ fromLine (c .line) 0 (lines (drop (within text c) text))
+    next-fit : readNext text c room ≡ fromLine (c .line) 0 (lines (drop (standing text c) text))
     unfolding readNext
     next-fit = rw f
 
-    pub next-differs : begun text (within text c) (c .line) ≡ Differs → readNext text c room ≡ fault line-form 1
-    next-differs b = next-fit ∙ begun-differs text (within text c) (c .line) 0 b
+    pub next-differs : begun text (standing text c) (c .line) ≡ Differs → readNext text c room ≡ fault line-form 1
+    next-differs b = next-fit ∙ begun-differs text (standing text c) (c .line) 0 b
 
-    module _ (i n : ℕ) (p : Passed text (within text c) (c .line) i n) where
+    module _ (i n : ℕ) (p : Passed text (standing text c) (c .line) i n) where
       pub next-end : length text ≤ i → readNext text c room ≡ end
       next-end h = next-fit ∙ p .reads 0 ∙ rows-end text i n 0 h
 
       pub next-here : (e : ℕ) → i < length text → e ≡ lineEnd text i → readNext text c room ≡ readLine n (slice i e text)
       next-here e h q = next-fit ∙ p .reads 0 ∙ rows-here text i n e h q
 
-pub cursor-stays : (text : List ℕ) (c : Cursor) (x : Reading) → isRow (answerOf x) ≡ false → c ≡ cursorAfter text c x
+pub cursor-stays : (text : List ℕ) (c : Cursor) (x : RowReading) → isRow (answerOf x) ≡ false → c ≡ cursorAfter text c x
 cursor-stays text c (row s t) q = absurd (false-not-true q refl)
 cursor-stays text c end q = refl
 cursor-stays text c (fault n p) q = refl
 
-pub cursor-goes : (text : List ℕ) (c : Cursor) (i n e : ℕ) (s : ℕ) (t : List ℕ) → Passed text (within text c) (c .line) i n → e ≡ lineEnd text i → (x : Reading) → x ≡ row s t
+pub cursor-goes : (text : List ℕ) (c : Cursor) (i n e : ℕ) (s : ℕ) (t : List ℕ) → Passed text (standing text c) (c .line) i n → e ≡ lineEnd text i → (x : RowReading) → x ≡ row s t
     → (j : ℕ) → j ≡ nextLine text e → record { at = j; line = n + 1 } ≡ cursorAfter text c x
 unfolding rowStart
 cursor-goes text c i n e s t p q x r j m = rw (r, m, q, p .line-is, p .start-is)

@@ -9,7 +9,7 @@ use native.Mathlib.Omega.{arith}
 use borrow.Author.Tests.{lt-ltb, ltb-true}
 use lib.Dec.{ltb}
 use Rattle.obligations.proofs.BoolLaws.{and-left, and-right}
-use Rattle.text.specs.Bytes.{count}
+use Rattle.text.specs.Bytes.{occurrences}
 use Rattle.text.specs.Fields.{comma, space, split, join}
 use Rattle.text.specs.Decimal.{value, isNumber, allNumbers, values, printNumber}
 use Rattle.text.specs.Members.{highest}
@@ -23,7 +23,7 @@ use Rattle.logfile.specs.Refusals.{traceText, rowText, SessionsWritten, 
 -- ---- a trace's print
 
 -- a printed trace has no comma
-trace-free : (ks : List ℕ) → count comma (traceText ks) ≡ 0
+trace-free : (ks : List ℕ) → occurrences comma (traceText ks) ≡ 0
 trace-free ks = join-free comma space (λ e. omega arith) (map printNumber ks) (numbers-free comma (omega arith) ks)
 
 pub entries-printed : (ks : List ℕ) → entries (traceText ks) ≡ map printNumber ks

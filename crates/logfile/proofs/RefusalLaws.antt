@@ -20,14 +20,14 @@ use Rattle.text.specs.Fields.{comma, split}
 use Rattle.text.specs.Decimal.{value, allNumbers, values, printNumber}
 use Rattle.text.specs.Members.{highest}
 use Rattle.text.proofs.ByteLaws.{same-exactly}
-use Rattle.text.proofs.FieldLaws.{count-split}
+use Rattle.text.proofs.FieldLaws.{occurrences-split}
 use Rattle.text.proofs.LineLaws.{line-next, none-next}
 use Rattle.net.specs.Refusals.{outside-limits, line-form, number-form}
 use Rattle.net.specs.Sentences.{Sentence, whole, NoneHolds, orderOnLine, AsListedByLine}
 use Rattle.net.proofs.SentenceLaws.{ascends, InOrder, Told, told-end, whole-link, ToldFrom, passed-all, line-passes, line-stops, line-told, told-by-line, refused-same, accepted-not-refused, holds-whole}
 use Rattle.logfile.specs.Limits.{logBytes, logRows}
-use Rattle.logfile.specs.LogFile.{Reading, row, end, fault, isSessions, entries, readFields, readParts, readLine, past, rowAfter, logHeader, afterHeader, sizesOk, readRow, RowSays, rowMeans, readingSays}
-use Rattle.logfile.specs.Refusals.{LineIs, traceText, rowText, OutsideLimits, CommasDiffer, NumbersDiffer, RowExceeds, UpToRow, lineRefusals, rowRefusals}
+use Rattle.logfile.specs.LogFile.{RowReading, row, end, fault, isSessions, entries, readFields, readParts, readLine, past, rowAfter, logHeader, afterHeader, sizesOk, readRow, RowSays, rowMeans, readingSays}
+use Rattle.logfile.specs.Refusals.{LineIs, traceText, rowText, LogOutsideLimits, CommasDiffer, NumbersDiffer, RowExceeds, UpToRow, lineRefusals, rowRefusals}
 use Rattle.logfile.specs.declared.RowAnswer.the-variants.{Refused}
 use Rattle.logfile.proofs.AnswerLaws.{line-row, line-printed, line-sessions, line-entries}
 use Rattle.logfile.proofs.FileLaws.{sizes-exactly}
@@ -41,12 +41,12 @@ line-same : {text : List ℕ} {n : ℕ} {l m : List ℕ} → LineIs text n l →
 line-same a b = sym (a .there) ∙ b .there
 
 -- a refusal on line n
-abbrev faultOn : ℕ → ℕ → ℕ → Reading
+abbrev faultOn : ℕ → ℕ → ℕ → RowReading
 faultOn n number place = fault number n
 
 -- line n, which is l and not past row r's
 module _ (text : List ℕ) (r n : ℕ) (l : List ℕ) (at : LineIs text n l) (h : n ≤ r + 1) where
-  line-link : (go : Reading) (number : ℕ) (Bad : List ℕ → Type 0) (ss : List Sentence) (test : Bool) (rest : Reading)
+  line-link : (go : RowReading) (number : ℕ) (Bad : List ℕ → Type 0) (ss : List Sentence) (test : Bool) (rest : RowReading)
       → (test ≡ true → Bad l → ⊥) → (test ≡ false → Bad l) → (test ≡ true → Told (faultOn n) ss go rest)
       → Told (faultOn n) (whole number (UpToRow text r n Bad) ∷ ss) go (cond test rest (fault number n))
   line-link go number Bad ss test rest none some next =
@@ -54,9 +54,9 @@ module _ (text : List ℕ) (r n : ℕ) (l : List ℕ) (at : LineIs text n l) (h 
       (λ e b. none e (subst Bad (line-same (b .1) at) (b .3))) (λ e. (l, at, omega arith, some e)) next
 
   -- 13 where it has not two fields
-  line-differs : (go : Reading) → (length (split comma l) ≡ 2 → ⊥) → Told (faultOn n) (lineRefusals text r n) go (fault line-form n)
+  line-differs : (go : RowReading) → (length (split comma l) ≡ 2 → ⊥) → Told (faultOn n) (lineRefusals text r n) go (fault line-form n)
   line-differs go d =
-      line-link go line-form CommasDiffer _ false go (λ e. absurd (false-not-true refl e)) (λ e q. d (count-split comma l 1 .0 q)) (λ e. absurd (false-not-true refl e))
+      line-link go line-form CommasDiffer _ false go (λ e. absurd (false-not-true refl e)) (λ e q. d (occurrences-split comma l 1 .0 q)) (λ e. absurd (false-not-true refl e))
 
   module _ (s t : List ℕ) (e : split comma l ≡ s ∷ t ∷ []) where
     numbers-none : isSessions s && allNumbers highest (entries t) ≡ true → NumbersDiffer l → ⊥
@@ -96,7 +96,7 @@ module _ (text : List ℕ) (r n : ℕ) (l : List ℕ) (at : LineIs text n l) (h 
     unfolding readFields
     fields-told =
         let go = row (value s) (values (entries t)) in
-        line-link go line-form CommasDiffer _ true _ (λ a d. d (count-split comma l 1 .1 (ap length e))) (λ a. absurd (false-not-true a refl))
+        line-link go line-form CommasDiffer _ true _ (λ a d. d (occurrences-split comma l 1 .1 (ap length e))) (λ a. absurd (false-not-true a refl))
         (λ a. line-link go number-form NumbersDiffer _ (isSessions s && allNumbers highest (entries t)) _ numbers-none numbers-some
         (λ p. line-link go outside-limits (RowExceeds n) [] (leb (length (entries t)) positions && leb n (logRows + 1)) _ exceeds-none (exceeds-some p)
         (λ q. told-end (faultOn n) go)))
@@ -191,13 +191,13 @@ module _ (text : List ℕ) (r room : ℕ) where
       go [] e = (readingSays end, end-answers, line-stops refusal sentences _ 1 line-form (inl (refl, holds-whole (rest-none text 0 1 e (omega arith) logHeader))))
       go (l ∷ ls) e = right (sameBytes l logHeader) l ls e refl
 
-  sizes-none : ltb 0 r && sizesOk text room ≡ true → OutsideLimits text r room → ⊥
+  sizes-none : ltb 0 r && sizesOk text room ≡ true → LogOutsideLimits text r room → ⊥
   sizes-none q b =
       let h = ltb-true 0 r (and-left (ltb 0 r) (sizesOk text room) q) in
       let w = sizes-exactly text room .0 (and-right (ltb 0 r) (sizesOk text room) q) in
       ⊎-elim (λ c. omega (arith, w .0)) (⊎-elim (λ c. omega arith) (λ c. omega (arith, w .1))) b
 
-  sizes-some : ltb 0 r && sizesOk text room ≡ false → OutsideLimits text r room
+  sizes-some : ltb 0 r && sizesOk text room ≡ false → LogOutsideLimits text r room
   sizes-some q =
       ⊎-elim inl
       (λ a. ⊎-elim (λ b. inr (inr b))
@@ -244,7 +244,7 @@ module _ (text : List ℕ) (r room : ℕ) where
     (λ w. back (w .0) (w .1) (readRow text r room) refl),
   )
     where
-      back : None → LineIs text (r + 1) (rowText k ks) → (x : Reading) → readRow text r room ≡ x → x ≡ row k ks
+      back : None → LineIs text (r + 1) (rowText k ks) → (x : RowReading) → readRow text r room ≡ x → x ≡ row k ks
       back f at (row s t) e =
           let w = row-on-line text r room s t e in
           let v = line-row (r + 1) (w .0) s t (w .2) in
@@ -259,7 +259,7 @@ module _ (text : List ℕ) (r room : ℕ) where
     (λ w. back (w .0) (w .1) (readRow text r room) refl),
   )
     where
-      back : None → ((l : List ℕ) → LineIs text (r + 1) l → ⊥) → (x : Reading) → readRow text r room ≡ x → x ≡ end
+      back : None → ((l : List ℕ) → LineIs text (r + 1) l → ⊥) → (x : RowReading) → readRow text r room ≡ x → x ≡ end
       back f none (row s t) e = absurd (none (rowText s t) (row-there s t e))
       back f none end e = refl
       back f none (fault n p) e = absurd (none-said f n p e)

@@ -10,7 +10,7 @@ use lib.ListN.{length, length-map}
 use lib.Seq.{slice}
 use Rattle.obligations.specs.Limits.{positions}
 use Rattle.net.specs.Refusals.{outside-limits, line-form, number-form}
-use Rattle.text.specs.Bytes.{before, count}
+use Rattle.text.specs.Bytes.{bytesBefore, occurrences}
 use Rattle.text.specs.Fields.{comma, split}
 use Rattle.text.specs.Decimal.{value, parseNumber, values}
 use Rattle.text.specs.declared.decimal.Number.the-variants as number
@@ -18,31 +18,31 @@ use Rattle.text.proofs.FieldLaws.{part-inside, two-parts, length-split}
 use Rattle.text.proofs.DecimalLaws.{number-value, number-refused}
 use Rattle.logfile.specs.Limits.{logRows, mostSessions}
 use Rattle.logfile.specs.LogFile.{row, fault, isSessions, entries, readFields, readParts, readLine}
-use Rattle.logfile.specs.Row.{answerOf, countEntries, IsTrace, Filled, IsRow, second}
+use Rattle.logfile.specs.Row.{answerOf, countEntries, IsTrace, TraceFilled, IsLogRow, second}
 use Rattle.logfile.specs.declared.RowAnswer.the-variants as answer
 use Rattle.logfile.specs.declared.row.Entries.the-variants as counted
 use Rattle.logfile.proofs.EntryLaws.{counted-value, counted-refused}
 
 -- ---- the fields of a row's line
 
-pub line-commas : (n : ℕ) (l : List ℕ) → (count comma l ≡ 1 → ⊥) → readLine n l ≡ fault line-form n
+pub line-commas : (n : ℕ) (l : List ℕ) → (occurrences comma l ≡ 1 → ⊥) → readLine n l ≡ fault line-form n
 unfolding readLine
 line-commas n l h = go (split comma l) (length-split comma l)
   where
-    go : (fs : List (List ℕ)) → length fs ≡ suc (count comma l) → readParts n fs ≡ fault line-form n
+    go : (fs : List (List ℕ)) → length fs ≡ suc (occurrences comma l) → readParts n fs ≡ fault line-form n
     go [] e = refl
     go (a ∷ []) e = refl
     go (a ∷ b ∷ []) e = absurd (h (omega arith))
     go (a ∷ b ∷ c ∷ fs) e = refl
 
-module _ (n : ℕ) (s : List ℕ) (i e j : ℕ) (h : i ≤ e) (t : e ≤ length s) (q : j ≡ i + before comma (slice i e s)) (o : count comma (slice i e s) ≡ 1) where
+module _ (n : ℕ) (s : List ℕ) (i e j : ℕ) (h : i ≤ e) (t : e ≤ length s) (q : j ≡ i + bytesBefore comma (slice i e s)) (o : occurrences comma (slice i e s) ≡ 1) where
   pub line-fields : readLine n (slice i e s) ≡ readFields n (slice i j s) (slice (j + 1) e s)
   unfolding readLine
   line-fields = rw (two-parts comma s i e j h t q o)
 
 -- the same of a line that is a row: its trace follows the comma
-module _ (s : List ℕ) (i e j room : ℕ) (h : i ≤ e) (t : e ≤ length s) (q : j ≡ i + before comma (slice i e s)) (r : IsRow (slice i e s) room) where
-  one-comma : count comma (slice i e s) ≡ 1
+module _ (s : List ℕ) (i e j room : ℕ) (h : i ≤ e) (t : e ≤ length s) (q : j ≡ i + bytesBefore comma (slice i e s)) (r : IsLogRow (slice i e s) room) where
+  one-comma : occurrences comma (slice i e s) ≡ 1
   one-comma = omega (arith, length-split comma (slice i e s), ap length (r .fields))
 
   pub row-comma : j < e
@@ -54,7 +54,7 @@ module _ (s : List ℕ) (i e j room : ℕ) (h : i ≤ e) (t : e ≤ length s) (q
   pub row-trace : IsTrace (slice (j + 1) e s) room
   row-trace = rw trace-is at (r .is-trace)
 
-  pub row-filled : (out₀ out : List ℕ) → Filled (slice (j + 1) e s) out₀ out → Filled (second (split comma (slice i e s))) out₀ out
+  pub row-filled : (out₀ out : List ℕ) → TraceFilled (slice (j + 1) e s) out₀ out → TraceFilled (second (split comma (slice i e s))) out₀ out
   row-filled out₀ out f = rw (two-parts comma s i e j h t q one-comma) f
 
 -- ---- what each test of a row decides

@@ -9,7 +9,7 @@ use Rattle.text.specs.Lines.{lines}
 use Rattle.text.specs.Inner.{lineEnd, nextLine}
 use Rattle.net.specs.Refusals.{outside-limits}
 use Rattle.net.specs.Chains.{unlessBy}
-use Rattle.logfile.specs.LogFile.{Reading, row, end, fault, rowAfter, afterHeader, sizesOk, RowRead}
+use Rattle.logfile.specs.LogFile.{RowReading, row, end, fault, rowAfter, afterHeader, sizesOk, RowRead}
 use Rattle.logfile.specs.declared.Cursor.{Cursor}
 use Rattle.logfile.specs.declared.NextRow.{NextRow}
 
@@ -17,23 +17,23 @@ abbrev pub start : Cursor
 start = record { at = 0; line = 1 }
 
 -- the row with k rows before it, in lines of which the first is line n
-unfoldable pub fromLine : ℕ → ℕ → List (List ℕ) → Reading
+unfoldable pub fromLine : ℕ → ℕ → List (List ℕ) → RowReading
 fromLine n k ls = cond (ltb 1 n) (rowAfter n k ls) (afterHeader k ls)
 
 -- where a cursor stands: one past the text's end stands at its end
-abbrev pub within : List ℕ → Cursor → ℕ
-within text c = min (c .at) (length text)
+abbrev pub standing : List ℕ → Cursor → ℕ
+standing text c = min (c .at) (length text)
 
 -- the row at a cursor
-unfoldable pub readNext : List ℕ → Cursor → ℕ → Reading
-readNext text c room = unlessBy fault (sizesOk text room) outside-limits 0 (fromLine (c .line) 0 (lines (drop (within text c) text)))
+unfoldable pub readNext : List ℕ → Cursor → ℕ → RowReading
+readNext text c room = unlessBy fault (sizesOk text room) outside-limits 0 (fromLine (c .line) 0 (lines (drop (standing text c) text)))
 
 -- where the row at a cursor starts: past the header, if that is the cursor's line
 unfoldable pub rowStart : List ℕ → Cursor → ℕ
-rowStart text c = cond (ltb 1 (c .line)) (within text c) (nextLine text (lineEnd text (within text c)))
+rowStart text c = cond (ltb 1 (c .line)) (standing text c) (nextLine text (lineEnd text (standing text c)))
 
 -- the cursor after what was read: on the line after a row, else where it was
-abbrev pub cursorAfter : List ℕ → Cursor → Reading → Cursor
+abbrev pub cursorAfter : List ℕ → Cursor → RowReading → Cursor
 cursorAfter text c (row s t) = record { at = nextLine text (lineEnd text (rowStart text c)); line = max 2 (c .line) + 1 }
 cursorAfter text c end = c
 cursorAfter text c (fault n p) = c

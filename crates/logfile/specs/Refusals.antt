@@ -6,7 +6,7 @@ use mathlib.Core.Logic.{_⊎_}
 use mathlib.Core.List.{List, [], _∷_, map, List·Memᴰ}
 use lib.ListN.{length}
 use Rattle.obligations.specs.Limits.{positions}
-use Rattle.text.specs.Bytes.{count}
+use Rattle.text.specs.Bytes.{occurrences}
 use Rattle.text.specs.Lines.{HasLine, lineAt}
 use Rattle.text.specs.Fields.{comma, space, split, join}
 use Rattle.text.specs.Decimal.{printNumber}
@@ -43,8 +43,8 @@ TraceWritten field = (ks : List ℕ) × (field ≡ traceText ks) × ((k : ℕ) �
 -- ---- the sentences
 
 -- 3: the file exceeds its bytes, the row asked for is 0, or the buffer is shorter than 64 words
-abbrev pub OutsideLimits : List ℕ → ℕ → ℕ → Type 0
-OutsideLimits text r room = (logBytes < length text) ⊎ ((r ≡ 0) ⊎ (room < positions))
+abbrev pub LogOutsideLimits : List ℕ → ℕ → ℕ → Type 0
+LogOutsideLimits text r room = (logBytes < length text) ⊎ ((r ≡ 0) ⊎ (room < positions))
 
 -- 13: the header is missing or differs in any byte
 abbrev pub HeaderDiffers : List ℕ → Type 0
@@ -52,7 +52,7 @@ HeaderDiffers text = LineIs text 1 logHeader → ⊥
 
 -- 13: a line doesn't have exactly one comma
 abbrev pub CommasDiffer : List ℕ → Type 0
-CommasDiffer l = count comma l ≡ 1 → ⊥
+CommasDiffer l = occurrences comma l ≡ 1 → ⊥
 
 -- 14: in one of a line's two fields a number is written otherwise, or is outside its column's limits
 abbrev pub NumbersDiffer : List ℕ → Type 0
@@ -76,6 +76,6 @@ lineRefusals text r n =
     ∷ []
 
 abbrev pub rowRefusals : List ℕ → ℕ → ℕ → ℕ → List Sentence
-rowRefusals text r room zero = whole outside-limits (OutsideLimits text r room) ∷ []
+rowRefusals text r room zero = whole outside-limits (LogOutsideLimits text r room) ∷ []
 rowRefusals text r room (suc zero) = whole line-form (HeaderDiffers text) ∷ []
 rowRefusals text r room (suc (suc i)) = lineRefusals text r (suc (suc i))

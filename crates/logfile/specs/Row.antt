@@ -11,7 +11,7 @@ use Rattle.text.specs.Inner.{lineEnd, nextLine}
 use Rattle.text.specs.Fields.{comma, split}
 use Rattle.text.specs.Decimal.{allNumbers, values}
 use Rattle.text.specs.Members.{highest}
-use Rattle.logfile.specs.LogFile.{Reading, row, end, fault, entries, logHeader}
+use Rattle.logfile.specs.LogFile.{RowReading, row, end, fault, entries, logHeader}
 use Rattle.logfile.specs.declared.Begun.{Begun}
 use Rattle.logfile.specs.declared.Begun.the-variants.{At, Differs}
 use Rattle.logfile.specs.declared.RowAnswer.{RowAnswer}
@@ -25,7 +25,7 @@ unfoldable pub begun : List ℕ → ℕ → ℕ → Begun
 begun text i n = cond (ltb 1 n) (At i n) (cond (sameBytes (slice i (lineEnd text i) text) logHeader) (At (nextLine text (lineEnd text i)) 2) Differs)
 
 -- the answer for what was read
-abbrev pub answerOf : Reading → RowAnswer
+abbrev pub answerOf : RowReading → RowAnswer
 answerOf (row s t) = answer.Row s (length t)
 answerOf end = answer.End
 answerOf (fault n p) = answer.Refused n p
@@ -45,11 +45,11 @@ pub record IsTrace (t : List ℕ) (room : ℕ) : Type 0 where
   pub numbers : allNumbers highest (entries t) ≡ true
   pub few : length (entries t) ≤ room
 
-abbrev pub Filled : List ℕ → List ℕ → List ℕ → Type 0
-Filled t out₀ out = out ≡ values (entries t) ++ drop (length (entries t)) out₀
+abbrev pub TraceFilled : List ℕ → List ℕ → List ℕ → Type 0
+TraceFilled t out₀ out = out ≡ values (entries t) ++ drop (length (entries t)) out₀
 
 -- the same of a row's line, which has two fields
-pub record IsRow (l : List ℕ) (room : ℕ) : Type 0 where
+pub record IsLogRow (l : List ℕ) (room : ℕ) : Type 0 where
   pub sessions : List ℕ
   pub trace : List ℕ
   pub fields : split comma l ≡ sessions ∷ trace ∷ []
@@ -60,5 +60,5 @@ second [] = []
 second (a ∷ []) = []
 second (a ∷ b ∷ fs) = b
 
-abbrev pub FilledRow : List ℕ → List ℕ → List ℕ → Type 0
-FilledRow l out₀ out = Filled (second (split comma l)) out₀ out
+abbrev pub RowFilled : List ℕ → List ℕ → List ℕ → Type 0
+RowFilled l out₀ out = TraceFilled (second (split comma l)) out₀ out

@@ -8,7 +8,7 @@ ghost use lib.Seq.{slice};
 ghost use Rattle.text.specs.Decimal.{isNumber, value};
 ghost use Rattle.text.specs.Members.{highest};
 ghost use Rattle.logfile.specs.LogFile.{fault, readLine};
-ghost use Rattle.logfile.specs.Row.{answerOf, isRow, countEntries, Filled, FilledRow, IsTrace, IsRow};
+ghost use Rattle.logfile.specs.Row.{answerOf, isRow, countEntries, TraceFilled, RowFilled, IsTrace, IsLogRow};
 use super::LOG_ROWS;
 use super::MOST_SESSIONS;
 use super::RowAnswer;
@@ -75,8 +75,8 @@ pub fn is_row(answer: RowAnswer) -> bool
 
 // Writes the trace of a row, text[i..e], to the buffer's front.
 pub fn fill_row(text: &[u8], i: usize, e: usize, out: &mut [u32])
-    requires { ⌜ (i ≤ e) × (e ≤ length (now text)) × IsRow (slice i e (now text)) (length (now out)) ⌝ }
-    ensures { λ _. ⌜ FilledRow (slice i e (now (text .entry))) (now (out .entry)) (now (out .exit)) ⌝ }
+    requires { ⌜ (i ≤ e) × (e ≤ length (now text)) × IsLogRow (slice i e (now text)) (length (now out)) ⌝ }
+    ensures { λ _. ⌜ RowFilled (slice i e (now (text .entry))) (now (out .entry)) (now (out .exit)) ⌝ }
 {
     let j = find_byte(text, i, e, b',');
     fill_trace(text, j + 1, e, out);
@@ -116,7 +116,7 @@ fn count_entries(text: &[u8], i: usize, e: usize) -> Entries
 // Writes the entries of the trace text[i..e] to the buffer's front.
 fn fill_trace(text: &[u8], i: usize, e: usize, out: &mut [u32])
     requires { ⌜ (i ≤ e) × (e ≤ length (now text)) × IsTrace (slice i e (now text)) (length (now out)) ⌝ }
-    ensures { λ _. ⌜ Filled (slice i e (now (text .entry))) (now (out .entry)) (now (out .exit)) ⌝ }
+    ensures { λ _. ⌜ TraceFilled (slice i e (now (text .entry))) (now (out .entry)) (now (out .exit)) ⌝ }
 {
     if i == e {
         return;

@@ -24,8 +24,8 @@ use Rattle.net.proofs.FreshLaws.{fresh-start, fresh-end, fresh-on-side, fresh-o
 use Rattle.net.proofs.PutLaws.{put-start, put-end, put-on-side}
 use Rattle.net.proofs.WithinLaws.{same-empty}
 use Rattle.netfile.specs.Limits.{netBytes}
-use Rattle.netfile.specs.NetFile.{netHeader, startWord, endWord, readEnd, readRow, rowSays, rowGives, Reading, refusedAt, readRows, afterEnd, fromEnd, afterStart, fromStart, fromHeader, readNet}
-use Rattle.netfile.specs.Refusals.{IsRow}
+use Rattle.netfile.specs.NetFile.{netHeader, startWord, endWord, readEnd, readSetRow, rowSays, rowGives, FileReading, refusedAt, readRows, afterEnd, fromEnd, afterStart, fromStart, fromHeader, readNet}
+use Rattle.netfile.specs.Refusals.{IsSetRow}
 use Rattle.netfile.specs.Statements.{HasRow, SaidBy}
 use Rattle.netfile.specs.declared.line.EndLine.{EndLine}
 use Rattle.netfile.specs.declared.line.EndLine.the-variants.{Activity, Refused}
@@ -43,25 +43,25 @@ refused-orderly = fresh-orderly 0 1 zero-one
 pub rows-orderly : (n : ℕ) (net : Net) (ls : List (List ℕ)) → orderly net ≡ true → orderly (readRows n net ls .net) ≡ true
 unfolding readRows
 rows-orderly n net [] o = o
-rows-orderly n net (l ∷ ls) o = go (rowSays net (readRow l) .ok) (rows-orderly (n + 1) (rowGives net (readRow l)) ls (row-orderly net (readRow l) o))
+rows-orderly n net (l ∷ ls) o = go (rowSays net (readSetRow l) .ok) (rows-orderly (n + 1) (rowGives net (readSetRow l)) ls (row-orderly net (readSetRow l) o))
   where
-    go : (t : Bool) → orderly (readRows (n + 1) (rowGives net (readRow l)) ls .net) ≡ true
-        → orderly (cond t (readRows (n + 1) (rowGives net (readRow l)) ls) (refusedAt (rowSays net (readRow l) .refusal) n) .net) ≡ true
+    go : (t : Bool) → orderly (readRows (n + 1) (rowGives net (readSetRow l)) ls .net) ≡ true
+        → orderly (cond t (readRows (n + 1) (rowGives net (readSetRow l)) ls) (refusedAt (rowSays net (readSetRow l) .refusal) n) .net) ≡ true
     go true h = h
     go false h = refused-orderly
 
 -- what is known where rows were accepted: of the first row, and that the others were accepted from the net with it
 record Taken (n : ℕ) (net : Net) (l : List ℕ) (ls : List (List ℕ)) : Type 0 where
-  first : rowSays net (readRow l) .ok ≡ true
-  others : readRows (n + 1) (rowGives net (readRow l)) ls .says .ok ≡ true
-  all : readRows n net (l ∷ ls) ≡ readRows (n + 1) (rowGives net (readRow l)) ls
+  first : rowSays net (readSetRow l) .ok ≡ true
+  others : readRows (n + 1) (rowGives net (readSetRow l)) ls .says .ok ≡ true
+  all : readRows n net (l ∷ ls) ≡ readRows (n + 1) (rowGives net (readSetRow l)) ls
 
 taken : (n : ℕ) (net : Net) (l : List ℕ) (ls : List (List ℕ)) → readRows n net (l ∷ ls) .says .ok ≡ true → Taken n net l ls
 unfolding readRows
-taken n net l ls h = go (rowSays net (readRow l) .ok) refl h
+taken n net l ls h = go (rowSays net (readSetRow l) .ok) refl h
   where
-    go : (t : Bool) → rowSays net (readRow l) .ok ≡ t
-        → cond t (readRows (n + 1) (rowGives net (readRow l)) ls) (refusedAt (rowSays net (readRow l) .refusal) n) .says .ok ≡ true
+    go : (t : Bool) → rowSays net (readSetRow l) .ok ≡ t
+        → cond t (readRows (n + 1) (rowGives net (readSetRow l)) ls) (refusedAt (rowSays net (readSetRow l) .refusal) n) .says .ok ≡ true
         → Taken n net l ls
     go true e h = record { first = e; others = h; all = rw e }
     go false e h = absurd (false-not-true refl h)
@@ -71,7 +71,7 @@ unfolding readRows
 rows-said n net [] h = refl
 rows-said n net (l ∷ ls) h =
     let t = taken n net l ls h in
-    ap (λ (r : Reading). r .says) (t .all) ∙ rows-said (n + 1) (rowGives net (readRow l)) ls (t .others)
+    ap (λ (r : FileReading). r .says) (t .all) ∙ rows-said (n + 1) (rowGives net (readSetRow l)) ls (t .others)
 
 row-start : (net : Net) (row : RowLine) → (rowGives net row .start ≡ net .start) × (rowGives net row .end ≡ net .end)
 row-start net (row-line.Set side a m) = (put-start net side a m, put-end net side a m)
@@ -82,9 +82,9 @@ unfolding readRows
 rows-ends n net [] h = (refl, refl)
 rows-ends n net (l ∷ ls) h =
     let t = taken n net l ls h in
-    let f = rows-ends (n + 1) (rowGives net (readRow l)) ls (t .others) in
-    let g = row-start net (readRow l) in
-    (ap (λ (r : Reading). r .net .start) (t .all) ∙ f .0 ∙ g .0, ap (λ (r : Reading). r .net .end) (t .all) ∙ f .1 ∙ g .1)
+    let f = rows-ends (n + 1) (rowGives net (readSetRow l)) ls (t .others) in
+    let g = row-start net (readSetRow l) in
+    (ap (λ (r : FileReading). r .net .start) (t .all) ∙ f .0 ∙ g .0, ap (λ (r : FileReading). r .net .end) (t .all) ∙ f .1 ∙ g .1)
 
 -- what one row that was put leaves on the sides
 row-holds : (net : Net) (row : RowLine) → rowSays net row .ok ≡ true → (side : Side) (a m : ℕ)
@@ -103,25 +103,25 @@ unfolding readRows
 rows-hold n net [] h side a m = ((λ i. inl i), (λ w. ⊎-elim (λ i. i) (λ r. absurd (List·Memᴰ·not-nil (r .there))) w))
 rows-hold n net (l ∷ ls) h side a m =
     let t = taken n net l ls h in
-    let f = rows-hold (n + 1) (rowGives net (readRow l)) ls (t .others) side a m in
-    let g = row-holds net (readRow l) (t .first) side a m in (
+    let f = rows-hold (n + 1) (rowGives net (readSetRow l)) ls (t .others) side a m in
+    let g = row-holds net (readSetRow l) (t .first) side a m in (
       (λ i. ⊎-elim (λ j. ⊎-elim (λ k. inl k) (λ e. inr (record { line = l; there = List·Memᴰ·head refl; is-row = row-exactly l side a m .0 e })) (g .0 j)) (λ r. inr (record { line = r .line; there = List·Memᴰ·tail (r .there); is-row = r .is-row })) (f .0 (rw (t .all) at i))),
       (λ w. rw (t .all) (f .1 (⊎-elim (λ k. inl (g .1 (inl k))) (λ r. later (g .1) r (List·Memᴰ·cases-cons (r .there))) w))),
     )
   where
-    later : ((OnSide net side a m ⊎ (readRow l ≡ row-line.Set side a m)) → OnSide (rowGives net (readRow l)) side a m) → (r : HasRow (l ∷ ls) side a m) → (r .line ≡ l) ⊎ List·Memᴰ (r .line) ls
-        → OnSide (rowGives net (readRow l)) side a m ⊎ HasRow ls side a m
-    later g r (inl e) = inl (g (inr (ap readRow (sym e) ∙ row-exactly (r .line) side a m .1 (r .is-row))))
+    later : ((OnSide net side a m ⊎ (readSetRow l ≡ row-line.Set side a m)) → OnSide (rowGives net (readSetRow l)) side a m) → (r : HasRow (l ∷ ls) side a m) → (r .line ≡ l) ⊎ List·Memᴰ (r .line) ls
+        → OnSide (rowGives net (readSetRow l)) side a m ⊎ HasRow ls side a m
+    later g r (inl e) = inl (g (inr (ap readSetRow (sym e) ∙ row-exactly (r .line) side a m .1 (r .is-row))))
     later g r (inr u) = inr (record { line = r .line; there = u; is-row = r .is-row })
 
 -- each line of rows that were accepted is a row
-pub rows-are-rows : (n : ℕ) (net : Net) (ls : List (List ℕ)) → readRows n net ls .says .ok ≡ true → (line : List ℕ) → List·Memᴰ line ls → (side : Side) × (a : ℕ) × (m : ℕ) × IsRow side a m line
+pub rows-are-rows : (n : ℕ) (net : Net) (ls : List (List ℕ)) → readRows n net ls .says .ok ≡ true → (line : List ℕ) → List·Memᴰ line ls → (side : Side) × (a : ℕ) × (m : ℕ) × IsSetRow side a m line
 rows-are-rows n net [] h line i = absurd (List·Memᴰ·not-nil i)
 rows-are-rows n net (l ∷ ls) h line i =
     let t = taken n net l ls h in
-    ⊎-elim (λ e. rw e (is-row (row-said l) (t .first))) (rows-are-rows (n + 1) (rowGives net (readRow l)) ls (t .others) line) (List·Memᴰ·cases-cons i)
+    ⊎-elim (λ e. rw e (is-row (row-said l) (t .first))) (rows-are-rows (n + 1) (rowGives net (readSetRow l)) ls (t .others) line) (List·Memᴰ·cases-cons i)
   where
-    is-row : {r : RowLine} → RowSaid l r → rowSays net r .ok ≡ true → (side : Side) × (a : ℕ) × (m : ℕ) × IsRow side a m l
+    is-row : {r : RowLine} → RowSaid l r → rowSays net r .ok ≡ true → (side : Side) × (a : ℕ) × (m : ℕ) × IsSetRow side a m l
     is-row (row-form w) e = absurd (false-not-true refl e)
     is-row (row-number f w) e = absurd (false-not-true refl e)
     is-row (set-row side a m f g r) e = (side, a, m, r)
@@ -147,7 +147,7 @@ unfolding readNet fromHeader fromStart fromEnd
 accepted-parts text h = size (leb (length text) netBytes) refl
   where
     never : (n p : ℕ) → readNet text ≡ refusedAt n p → ⊥
-    never n p e = false-not-true (ap (λ (r : Reading). r .says .ok) e) h
+    never n p e = false-not-true (ap (λ (r : FileReading). r .says .ok) e) h
 
     ends : (start end : ℕ) (s e : List ℕ) (rs : List (List ℕ)) → readEnd startWord s ≡ Activity start → readEnd endWord e ≡ Activity end → lines text ≡ netHeader ∷ s ∷ e ∷ rs
         → (t : Bool) (k n : ℕ) → eqb start end ≡ t → readNet text ≡ unlessBy refusedAt (not t) k n (readRows 4 (freshNet start end) rs) → FileParts text
@@ -163,7 +163,7 @@ accepted-parts text h = size (leb (length text) netBytes) refl
       end-read = q;
       ends = facts-ends start end (end-is startWord s start p .is-activity) (end-is endWord e end q .is-activity) (eqb-false start end d);
       is-rows = u;
-      fine = sym (ap (λ (r : Reading). r .says .ok) u) ∙ h;
+      fine = sym (ap (λ (r : FileReading). r .says .ok) u) ∙ h;
     }
 
     third : (start : ℕ) (s e : List ℕ) (rs : List (List ℕ)) → readEnd startWord s ≡ Activity start → lines text ≡ netHeader ∷ s ∷ e ∷ rs
@@ -200,11 +200,11 @@ accepted-parts text h = size (leb (length text) netBytes) refl
 rows-refused : (n : ℕ) (net : Net) (ls : List (List ℕ)) → readRows n net ls .says .ok ≡ false → readRows n net ls .net ≡ freshNet 0 1
 unfolding readRows
 rows-refused n net [] h = absurd (false-not-true h refl)
-rows-refused n net (l ∷ ls) h = go (rowSays net (readRow l) .ok) (rows-refused (n + 1) (rowGives net (readRow l)) ls) h
+rows-refused n net (l ∷ ls) h = go (rowSays net (readSetRow l) .ok) (rows-refused (n + 1) (rowGives net (readSetRow l)) ls) h
   where
-    go : (t : Bool) → (readRows (n + 1) (rowGives net (readRow l)) ls .says .ok ≡ false → readRows (n + 1) (rowGives net (readRow l)) ls .net ≡ freshNet 0 1)
-        → cond t (readRows (n + 1) (rowGives net (readRow l)) ls) (refusedAt (rowSays net (readRow l) .refusal) n) .says .ok ≡ false
-        → cond t (readRows (n + 1) (rowGives net (readRow l)) ls) (refusedAt (rowSays net (readRow l) .refusal) n) .net ≡ freshNet 0 1
+    go : (t : Bool) → (readRows (n + 1) (rowGives net (readSetRow l)) ls .says .ok ≡ false → readRows (n + 1) (rowGives net (readSetRow l)) ls .net ≡ freshNet 0 1)
+        → cond t (readRows (n + 1) (rowGives net (readSetRow l)) ls) (refusedAt (rowSays net (readSetRow l) .refusal) n) .says .ok ≡ false
+        → cond t (readRows (n + 1) (rowGives net (readSetRow l)) ls) (refusedAt (rowSays net (readSetRow l) .refusal) n) .net ≡ freshNet 0 1
     go true ih h = ih h
     go false ih h = refl
 
@@ -212,10 +212,10 @@ pub read-refused : (text : List ℕ) → readNet text .says .ok ≡ false → re
 unfolding readNet fromHeader fromStart fromEnd
 read-refused text h = whole (leb (length text) netBytes) (fromHeader (lines text)) outside-limits 0 (header (lines text)) h
   where
-    Fresh : Reading → Type 0
+    Fresh : FileReading → Type 0
     Fresh r = r .says .ok ≡ false → r .net ≡ freshNet 0 1
 
-    whole : (t : Bool) (r : Reading) (n p : ℕ) → Fresh r → Fresh (cond t r (refusedAt n p))
+    whole : (t : Bool) (r : FileReading) (n p : ℕ) → Fresh r → Fresh (cond t r (refusedAt n p))
     whole true r n p f = f
     whole false r n p f = λ q. refl
 
@@ -253,12 +253,12 @@ net-orderly text = elim (true-or-false (readNet text .says .ok)) [
 
 pub ok-accepted : (text : List ℕ) → readNet text .says .ok ≡ true → readNet text .says ≡ accepted 0
 ok-accepted text h =
-    let a = accepted-parts text h in ap (λ (r : Reading). r .says) (a .is-rows) ∙ rows-said 4 (freshNet (a .start) (a .end)) (a .rows) (a .fine)
+    let a = accepted-parts text h in ap (λ (r : FileReading). r .says) (a .is-rows) ∙ rows-said 4 (freshNet (a .start) (a .end)) (a .rows) (a .fine)
 
 pub accepted-said : (text : List ℕ) → readNet text .says ≡ accepted 0 → SaidBy text (readNet text .net)
 accepted-said text q =
     let a = accepted-parts text (ap (λ (s : Says). s .ok) q) in
-    let n = ap (λ (r : Reading). r .net) (a .is-rows) in
+    let n = ap (λ (r : FileReading). r .net) (a .is-rows) in
     let g = rows-ends 4 (freshNet (a .start) (a .end)) (a .rows) (a .fine) in
     let s : readNet text .net .start ≡ a .start = ap (λ (k : Net). k .start) n ∙ g .0 ∙ fresh-start (a .start) (a .end) in
     let e : readNet text .net .end ≡ a .end = ap (λ (k : Net). k .end) n ∙ g .1 ∙ fresh-end (a .start) (a .end) in

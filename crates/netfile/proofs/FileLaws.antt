@@ -21,7 +21,7 @@ use Rattle.netfile.specs.Steps.{rowPut}
 use Rattle.netfile.specs.declared.line.RowLine.{RowLine}
 use Rattle.netfile.specs.declared.read.RowPut.the-variants as row-put
 use Rattle.netfile.proofs.PutRowLaws.{row-put-ok, row-put-refused}
-use Rattle.netfile.specs.NetFile.{netHeader, startWord, endWord, readEnd, readRow, rowSays, rowGives, readAs, refusedAt, readRows, afterEnd, fromEnd, afterStart, fromStart, fromHeader, readNet}
+use Rattle.netfile.specs.NetFile.{netHeader, startWord, endWord, readEnd, readSetRow, rowSays, rowGives, readAs, refusedAt, readRows, afterEnd, fromEnd, afterStart, fromStart, fromHeader, readNet}
 
 module _ (s : List ℕ) (i e n : ℕ) (q : e ≡ lineEnd s i) (m : n ≡ nextLine s e) where
   -- the line that starts at i, or none
@@ -45,7 +45,7 @@ module _ (s : List ℕ) (i e n : ℕ) (q : e ≡ lineEnd s i) (m : n ≡ nextLin
   end-line h start = ⊎-elim (λ l. rw l) (λ l. rw (l .0, l .1)) (line-or-none h)
 
   -- a row's line, by what became of its set
-  module _ (k : i < length s) (line : ℕ) (net : Net) (row : RowLine) (r : row ≡ readRow (slice i e s)) where
+  module _ (k : i < length s) (line : ℕ) (net : Net) (row : RowLine) (r : row ≡ readSetRow (slice i e s)) where
     pub rows-more : (net′ : Net) → rowPut (rowSays net row) ≡ row-put.Put → net′ ≡ rowGives net row
         → readRows line net (lines (drop i s)) ≡ readRows (line + 1) net′ (lines (drop n s))
     unfolding readRows

@@ -11,7 +11,7 @@ use mathlib.Core.Logic.{_⊎_, inl, inr, _↔_}
 use lib.ListN.{length, getD}
 use Rattle.obligations.specs.Limits.{activities}
 use Rattle.obligations.proofs.BoolLaws.{true-or-false, false-not-true}
-use Rattle.text.specs.Bytes.{count, sameBytes}
+use Rattle.text.specs.Bytes.{occurrences, sameBytes}
 use Rattle.text.specs.Fields.{comma, split, join}
 use Rattle.text.specs.Decimal.{isEmpty, parseNumber, printNumber}
 use Rattle.text.specs.Members.{highest, parseMembers, printMembers}
@@ -20,14 +20,14 @@ use Rattle.text.specs.declared.decimal.Number.the-variants as number
 use Rattle.text.specs.declared.members.Members.{Members}
 use Rattle.text.specs.declared.members.Members.the-variants as members
 use Rattle.text.proofs.ByteLaws.{same-exactly, empty-exactly}
-use Rattle.text.proofs.FieldLaws.{count-split, join-split}
+use Rattle.text.proofs.FieldLaws.{occurrences-split, join-split}
 use Rattle.text.proofs.DecimalLaws.{parse-exactly}
 use Rattle.text.proofs.MemberListLaws.{parse-members-exactly}
 use Rattle.net.specs.Refusals.{line-form, number-form}
 use Rattle.net.specs.declared.Side.{Side}
 use Rattle.net.specs.declared.Side.the-variants.{Input, Output}
-use Rattle.netfile.specs.NetFile.{startWord, endWord, sideWord, endNumber, readEnd, rowRest, readRow}
-use Rattle.netfile.specs.Refusals.{wordOf, numberIn, membersIn, IsEnd, IsRow, EndFormWrong, end-commas, end-word, end-members, ActivityWrong, RowFormWrong, row-commas, row-word, row-members, MembersWrong}
+use Rattle.netfile.specs.NetFile.{startWord, endWord, sideWord, endNumber, readEnd, rowRest, readSetRow}
+use Rattle.netfile.specs.Refusals.{wordOf, numberIn, membersIn, IsEnd, IsSetRow, EndFormWrong, end-commas, end-word, end-members, ActivityWrong, RowFormWrong, row-commas, row-word, row-members, MembersWrong}
 use Rattle.netfile.specs.declared.line.EndLine.{EndLine}
 use Rattle.netfile.specs.declared.line.EndLine.the-variants as end-line
 use Rattle.netfile.specs.declared.line.RowLine.{RowLine}
@@ -44,9 +44,9 @@ three (w ∷ a ∷ []) h = absurd (omega arith)
 three (w ∷ a ∷ m ∷ []) h = refl
 three (w ∷ a ∷ m ∷ x ∷ fs) h = absurd (omega arith)
 
-module _ (line : List ℕ) (h : count comma line ≡ 2) where
+module _ (line : List ℕ) (h : occurrences comma line ≡ 2) where
   fields-three : split comma line ≡ wordOf line ∷ numberIn line ∷ membersIn line ∷ []
-  fields-three = three (split comma line) (count-split comma line 2 .0 h)
+  fields-three = three (split comma line) (occurrences-split comma line 2 .0 h)
 
   joined : line ≡ join comma (wordOf line ∷ numberIn line ∷ membersIn line ∷ [])
   joined = sym (join-split comma line) ∙ ap (join comma) fields-three
@@ -73,24 +73,24 @@ pub data EndSaid (word line : List ℕ) : EndLine → Type 0 where
   end-number : (EndFormWrong word line → ⊥) → ActivityWrong line → EndSaid word line (end-line.Refused number-form)
   end-row : (a : ℕ) → (EndFormWrong word line → ⊥) → (ActivityWrong line → ⊥) → IsEnd word a line → EndSaid word line (end-line.Activity a)
 
-end-right : (word line : List ℕ) → count comma line ≡ 2 → wordOf line ≡ word → membersIn line ≡ [] → EndFormWrong word line → ⊥
+end-right : (word line : List ℕ) → occurrences comma line ≡ 2 → wordOf line ≡ word → membersIn line ≡ [] → EndFormWrong word line → ⊥
 end-right word line c w m (end-commas f) = f c
 end-right word line c w m (end-word f) = f w
 end-right word line c w m (end-members f) = f m
 
 pub end-said : (word line : List ℕ) → EndSaid word line (readEnd word line)
-end-said word line = elim (decEq (count comma line) 2) [
+end-said word line = elim (decEq (occurrences comma line) 2) [
   | no d ↦ rw (end-commas-said line d word) (end-form (end-commas d))
   | yes c ↦ words c (true-or-false (sameBytes (wordOf line) word)) (true-or-false (isEmpty (membersIn line)))
 ]
   where
-    numbers : count comma line ≡ 2 → wordOf line ≡ word → membersIn line ≡ [] → (n : Number) → parseNumber highest (numberIn line) ≡ n → EndSaid word line (endNumber n)
+    numbers : occurrences comma line ≡ 2 → wordOf line ≡ word → membersIn line ≡ [] → (n : Number) → parseNumber highest (numberIn line) ≡ n → EndSaid word line (endNumber n)
     numbers c w m (number.Value a) p =
         let f = number-right line a p in
         end-row a (end-right word line c w m) (λ g. g a (f .0) (f .1)) (record { is-text = joined line c ∙ rw (w, f .1, m); is-activity = f .0 })
     numbers c w m number.Refused p = end-number (end-right word line c w m) (not-number line p)
 
-    words : count comma line ≡ 2 → (sameBytes (wordOf line) word ≡ true) ⊎ (sameBytes (wordOf line) word ≡ false)
+    words : occurrences comma line ≡ 2 → (sameBytes (wordOf line) word ≡ true) ⊎ (sameBytes (wordOf line) word ≡ false)
         → (isEmpty (membersIn line) ≡ true) ⊎ (isEmpty (membersIn line) ≡ false) → EndSaid word line (readEnd word line)
     words c (inr d) m =
         rw (end-other-word word line (wordOf line) (numberIn line) (membersIn line) (fields-three line c) d)
@@ -137,20 +137,20 @@ end-same line a b i j = let p = end-exactly line a .1 i in let q = end-exactly l
 pub data RowSaid (line : List ℕ) : RowLine → Type 0 where
   row-form : RowFormWrong line → RowSaid line (row-line.Refused line-form)
   row-number : (RowFormWrong line → ⊥) → ActivityWrong line ⊎ MembersWrong line → RowSaid line (row-line.Refused number-form)
-  set-row : (side : Side) (a m : ℕ) → (RowFormWrong line → ⊥) → (ActivityWrong line ⊎ MembersWrong line → ⊥) → IsRow side a m line → RowSaid line (row-line.Set side a m)
+  set-row : (side : Side) (a m : ℕ) → (RowFormWrong line → ⊥) → (ActivityWrong line ⊎ MembersWrong line → ⊥) → IsSetRow side a m line → RowSaid line (row-line.Set side a m)
 
-row-right : (line : List ℕ) (side : Side) → count comma line ≡ 2 → wordOf line ≡ sideWord side → isEmpty (membersIn line) ≡ false → RowFormWrong line → ⊥
+row-right : (line : List ℕ) (side : Side) → occurrences comma line ≡ 2 → wordOf line ≡ sideWord side → isEmpty (membersIn line) ≡ false → RowFormWrong line → ⊥
 row-right line side c w m (row-commas f) = f c
 row-right line side c w m (row-word f) = f side w
 row-right line side c w m (row-members e) = false-not-true m (empty-exactly (membersIn line) .1 e)
 
-pub row-said : (line : List ℕ) → RowSaid line (readRow line)
-row-said line = elim (decEq (count comma line) 2) [
+pub row-said : (line : List ℕ) → RowSaid line (readSetRow line)
+row-said line = elim (decEq (occurrences comma line) 2) [
   | no d ↦ rw (row-commas-said line d) (row-form (row-commas d))
   | yes c ↦ words c (true-or-false (sameBytes (wordOf line) (sideWord Input))) (true-or-false (sameBytes (wordOf line) (sideWord Output)))
 ]
   where
-    numbers : (side : Side) → count comma line ≡ 2 → wordOf line ≡ sideWord side → isEmpty (membersIn line) ≡ false
+    numbers : (side : Side) → occurrences comma line ≡ 2 → wordOf line ≡ sideWord side → isEmpty (membersIn line) ≡ false
         → (n : Number) (s : Members) → parseNumber highest (numberIn line) ≡ n → parseMembers (membersIn line) ≡ s → RowSaid line (rowRest side (numberIn line) (membersIn line))
     numbers side c w m (number.Value a) (members.Set x) p q =
         let f = number-right line a p in
@@ -167,7 +167,7 @@ row-said line = elim (decEq (count comma line) 2) [
     numbers side c w m number.Refused s p q =
         rw (rest-no-activity side (numberIn line) (membersIn line) m p) (row-number (row-right line side c w m) (inl (not-number line p)))
 
-    rest : (side : Side) → count comma line ≡ 2 → wordOf line ≡ sideWord side → RowSaid line (rowRest side (numberIn line) (membersIn line))
+    rest : (side : Side) → occurrences comma line ≡ 2 → wordOf line ≡ sideWord side → RowSaid line (rowRest side (numberIn line) (membersIn line))
     rest side c w = elim (true-or-false (isEmpty (membersIn line))) [
       | inl m ↦ rw (rest-missing side (numberIn line) (membersIn line) m) (row-form (row-members (empty-exactly (membersIn line) .0 m)))
       | inr m ↦ numbers side c w m (parseNumber highest (numberIn line)) (parseMembers (membersIn line)) refl refl
@@ -177,16 +177,16 @@ row-said line = elim (decEq (count comma line) 2) [
     neither d u Input e = false-not-true d (same-exactly (wordOf line) (sideWord Input) .1 e)
     neither d u Output e = false-not-true u (same-exactly (wordOf line) (sideWord Output) .1 e)
 
-    words : count comma line ≡ 2 → (sameBytes (wordOf line) (sideWord Input) ≡ true) ⊎ (sameBytes (wordOf line) (sideWord Input) ≡ false)
-        → (sameBytes (wordOf line) (sideWord Output) ≡ true) ⊎ (sameBytes (wordOf line) (sideWord Output) ≡ false) → RowSaid line (readRow line)
+    words : occurrences comma line ≡ 2 → (sameBytes (wordOf line) (sideWord Input) ≡ true) ⊎ (sameBytes (wordOf line) (sideWord Input) ≡ false)
+        → (sameBytes (wordOf line) (sideWord Output) ≡ true) ⊎ (sameBytes (wordOf line) (sideWord Output) ≡ false) → RowSaid line (readSetRow line)
     words c (inl w) u = rw (row-in line (wordOf line) (numberIn line) (membersIn line) (fields-three line c) w) (rest Input c (same-exactly (wordOf line) (sideWord Input) .0 w))
     words c (inr d) (inl w) = rw (row-out line (wordOf line) (numberIn line) (membersIn line) (fields-three line c) d w) (rest Output c (same-exactly (wordOf line) (sideWord Output) .0 w))
     words c (inr d) (inr u) = rw (row-other-word line (wordOf line) (numberIn line) (membersIn line) (fields-three line c) d u) (row-form (row-word (neither d u)))
 
-pub row-exactly : (line : List ℕ) (side : Side) (a m : ℕ) → (readRow line ≡ row-line.Set side a m) ↔ IsRow side a m line
+pub row-exactly : (line : List ℕ) (side : Side) (a m : ℕ) → (readSetRow line ≡ row-line.Set side a m) ↔ IsSetRow side a m line
 row-exactly line side a m = (go (row-said line), (λ i. rw (i .is-text) (row-back side a m (i .is-activity) (i .not-empty) (i .is-mask))))
   where
-    go : {r : RowLine} → RowSaid line r → r ≡ row-line.Set side a m → IsRow side a m line
+    go : {r : RowLine} → RowSaid line r → r ≡ row-line.Set side a m → IsSetRow side a m line
     go (row-form w) q = let z : _≡_ {A = ℕ} 0 1 = cc in absurd (omega arith)
     go (row-number f w) q = let z : _≡_ {A = ℕ} 0 1 = cc in absurd (omega arith)
     go (set-row t b x f g i) q =
@@ -195,7 +195,7 @@ row-exactly line side a m = (go (row-said line), (λ i. rw (i .is-text) (row-bac
         let w : x ≡ m = cc in rw (u, v, w) at i
 
 -- a row's line has nothing of 13 and 14
-pub row-fine : (line : List ℕ) (side : Side) (a m : ℕ) → IsRow side a m line → (RowFormWrong line → ⊥) × (ActivityWrong line ⊎ MembersWrong line → ⊥)
+pub row-fine : (line : List ℕ) (side : Side) (a m : ℕ) → IsSetRow side a m line → (RowFormWrong line → ⊥) × (ActivityWrong line ⊎ MembersWrong line → ⊥)
 row-fine line side a m i = go (row-said line) (row-exactly line side a m .1 i)
   where
     go : {r : RowLine} → RowSaid line r → r ≡ row-line.Set side a m → (RowFormWrong line → ⊥) × (ActivityWrong line ⊎ MembersWrong line → ⊥)
@@ -204,7 +204,7 @@ row-fine line side a m i = go (row-said line) (row-exactly line side a m .1 i)
     go (set-row t b x f g j) q = (f, g)
 
 -- a line is the row of one set
-pub row-same : (line : List ℕ) (s t : Side) (a b m x : ℕ) → IsRow s a m line → IsRow t b x line → (s ≡ t) × (a ≡ b) × (m ≡ x)
+pub row-same : (line : List ℕ) (s t : Side) (a b m x : ℕ) → IsSetRow s a m line → IsSetRow t b x line → (s ≡ t) × (a ≡ b) × (m ≡ x)
 row-same line s t a b m x i j =
     let p = row-exactly line s a m .1 i in
     let q = row-exactly line t b x .1 j in

@@ -38,8 +38,8 @@ use Rattle.net.proofs.WithinLaws.{same-empty}
 use Rattle.net.proofs.RefusalLaws.{PutCase, said-misplaced, said-full, said-put, put-case}
 use Rattle.net.proofs.DistinctLaws.{fewer}
 use Rattle.netfile.specs.Limits.{netBytes}
-use Rattle.netfile.specs.NetFile.{netHeader, startWord, endWord, readEnd, readRow, rowSays, rowGives, refusedAt, readRows, afterEnd, fromEnd, afterStart, fromStart, fromHeader, readNet}
-use Rattle.netfile.specs.Refusals.{IsEnd, IsRow, HoldsEmpty, MisplacedRow, RowUpTo, FullSide, netRefusals}
+use Rattle.netfile.specs.NetFile.{netHeader, startWord, endWord, readEnd, readSetRow, rowSays, rowGives, refusedAt, readRows, afterEnd, fromEnd, afterStart, fromStart, fromHeader, readNet}
+use Rattle.netfile.specs.Refusals.{IsEnd, IsSetRow, HoldsEmpty, MisplacedRow, RowUpTo, FullSide, netRefusals}
 use Rattle.netfile.specs.declared.line.EndLine.{EndLine}
 use Rattle.netfile.specs.declared.line.RowLine.{RowLine}
 use Rattle.netfile.proofs.RowLaws.{row-commas as row-commas-said}
@@ -51,11 +51,11 @@ module _ (text : List ℕ) where
   line-missing : (n : ℕ) → (HasLine text n → ⊥) → lineAt text n ≡ []
   line-missing n f = List·getD-eq-default (lines text) [] {n = n - 1} (omega arith)
 
-  pub no-row-missing : (n : ℕ) → (HasLine text n → ⊥) → (side : Side) (a m : ℕ) → IsRow side a m (lineAt text n) → ⊥
+  pub no-row-missing : (n : ℕ) → (HasLine text n → ⊥) → (side : Side) (a m : ℕ) → IsSetRow side a m (lineAt text n) → ⊥
   no-row-missing n f side a m i =
       let p = row-exactly (lineAt text n) side a m .1 i in
       let q = row-commas-said [] (λ e. omega arith) in
-      let e = ap readRow (line-missing n f) in
+      let e = ap readSetRow (line-missing n f) in
       let z : _≡_ {A = ℕ} 0 1 = cc in omega arith
 
   -- no sentence holds of a row's line that isn't there
@@ -72,7 +72,7 @@ module _ (text : List ℕ) where
       (⊎-elim (λ w. let b = w .1 .bad in no-row-missing (suc (suc (suc (suc n)))) f (b .side) (b .activity) (b .set) (b .is-row)) (λ w. w))))
 
   -- the rows up to a line are those up to the line before and its own
-  up-to-next : (n : ℕ) (side : Side) (a m : ℕ) → 3 ≤ n → RowUpTo text (suc n) side a m ↔ (RowUpTo text n side a m ⊎ IsRow side a m (lineAt text (suc n)))
+  up-to-next : (n : ℕ) (side : Side) (a m : ℕ) → 3 ≤ n → RowUpTo text (suc n) side a m ↔ (RowUpTo text n side a m ⊎ IsSetRow side a m (lineAt text (suc n)))
   up-to-next n side a m h = (
     (λ r. elim (decEq (r .line) (suc n)) [
       | yes e ↦ inr (rw e at (r .is-row))
@@ -93,7 +93,7 @@ module _ (text : List ℕ) where
   only-empty n net s Input a = ((λ i. start-same (lineAt text 2) a (net .start) i (s .is-start)), (λ e. rw e (s .is-start)))
   only-empty n net s Output a = ((λ i. end-same (lineAt text 3) a (net .end) i (s .is-end)), (λ e. rw e (s .is-end)))
 
-  module _ (n : ℕ) (low : 3 ≤ n) (net : Net) (s : SoFar n net) (side : Side) (a m : ℕ) (i : IsRow side a m (lineAt text (suc n))) where
+  module _ (n : ℕ) (low : 3 ≤ n) (net : Net) (s : SoFar n net) (side : Side) (a m : ℕ) (i : IsSetRow side a m (lineAt text (suc n))) where
     -- 5 is said as its sentence holds
     misplaced-row : a ≡ emptyAt net side → MisplacedRow text (suc n)
     misplaced-row e = record { side = side; activity = a; set = m; is-row = i; only-empty = only-empty n net s side a .1 e }
@@ -191,7 +191,7 @@ module _ (text : List ℕ) where
       passed-all (λ l h. none-missing l (omega arith) (none-next text (suc (suc (suc j))) l e (omega arith)))
   rows-told j net (l ∷ ls) e s =
       let w = line-next text (suc (suc (suc j))) l ls e in
-      let r : RowSaid (lineAt text (suc (suc (suc (suc j))))) (readRow l) = rw (← w .1) (row-said (lineAt text (suc (suc (suc (suc j)))))) in
+      let r : RowSaid (lineAt text (suc (suc (suc (suc j))))) (readSetRow l) = rw (← w .1) (row-said (lineAt text (suc (suc (suc (suc j)))))) in
       row-told j net ls s (w .0) r (λ net′ t. rw add-one (rows-told (suc j) net′ ls (w .2) t))
 
   -- ---- the lines before the rows

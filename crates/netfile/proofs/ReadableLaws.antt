@@ -30,8 +30,8 @@ use Rattle.net.proofs.OrderlyLaws.{orderly-facts, orderly-sides, orderly-at-mos
 use Rattle.net.proofs.WithinLaws.{contained-same, same-empty}
 use Rattle.net.proofs.SentenceLaws.{ToldFrom, passed-all, stopped-on, accepted-not-refused}
 use Rattle.netfile.specs.Limits.{netBytes}
-use Rattle.netfile.specs.NetFile.{startWord, endWord, Reading, readNet}
-use Rattle.netfile.specs.Refusals.{IsEnd, IsRow, ActivityWrong, RowFormWrong, MembersWrong, HoldsEmpty, netRefusals}
+use Rattle.netfile.specs.NetFile.{startWord, endWord, FileReading, readNet}
+use Rattle.netfile.specs.Refusals.{IsEnd, IsSetRow, ActivityWrong, RowFormWrong, MembersWrong, HoldsEmpty, netRefusals}
 use Rattle.netfile.specs.Statements.{HasRow, Readable, SameRows}
 use Rattle.netfile.proofs.FileLaws.{read-long}
 use Rattle.netfile.proofs.LineReadLaws.{start-exactly, end-exactly, start-same, end-same, end-fine, row-fine}
@@ -66,7 +66,7 @@ accepted-readable text q =
     let e : a .rows ≡ s .rows = sym (ap (drop 3) (a .are-lines)) ∙ ap (drop 3) (s .are-lines) in
     let on : (side : Side) (b m : ℕ) → HasRow (s .rows) side b m → OnSide net side b m = λ side b m r. s .sets-read side b m .1 (inr r) in
     record {
-      within = ⊎-elim (λ l. absurd (accepted-not-refused 0 outside-limits 0 (sym q ∙ ap (λ (r : Reading). r .says) (read-long text l)))) (λ l. l) (lt-or-le netBytes (length text));
+      within = ⊎-elim (λ l. absurd (accepted-not-refused 0 outside-limits 0 (sym q ∙ ap (λ (r : FileReading). r .says) (read-long text l)))) (λ l. l) (lt-or-le netBytes (length text));
       start = net .start;
       end = net .end;
       rows = s .rows;
@@ -98,7 +98,7 @@ module _ (text : List ℕ) (r : Readable text) where
       let e : n - 1 ≡ suc (suc (suc (n - 4))) = omega arith in
       rw (e, r .are-lines) (member-at (r .rows) (n - 4) [] (omega (arith, long)))
 
-  row-there : (n : ℕ) (side : Side) (a m : ℕ) → 4 ≤ n → IsRow side a m (lineAt text n) → HasRow (r .rows) side a m
+  row-there : (n : ℕ) (side : Side) (a m : ℕ) → 4 ≤ n → IsSetRow side a m (lineAt text n) → HasRow (r .rows) side a m
   row-there n side a m h i =
       ⊎-elim (λ l. absurd (no-row-missing text n (λ k. omega arith) side a m i)) (λ l. record { line = lineAt text n; there = line-there n h l; is-row = i }) (lt-or-le (length (lines text)) n)
 

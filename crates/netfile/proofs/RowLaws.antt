@@ -7,7 +7,7 @@ use mathlib.Core.List.{List, [], _∷_}
 use native.Mathlib.Omega.{arith}
 use lib.ListN.{length}
 use lib.Seq.{slice, slice-empty}
-use Rattle.text.specs.Bytes.{count, sameBytes}
+use Rattle.text.specs.Bytes.{occurrences, sameBytes}
 use Rattle.text.specs.Fields.{comma, split}
 use Rattle.text.specs.Decimal.{isEmpty, parseNumber}
 use Rattle.text.specs.Members.{highest, parseMembers}
@@ -18,7 +18,7 @@ use Rattle.text.proofs.FieldLaws.{length-split}
 use Rattle.net.specs.Refusals.{line-form, number-form}
 use Rattle.net.specs.declared.Side.{Side}
 use Rattle.net.specs.declared.Side.the-variants.{Input, Output}
-use Rattle.netfile.specs.NetFile.{sideWord, endNumber, endFields, readEnd, rowRest, rowFields, readRow}
+use Rattle.netfile.specs.NetFile.{sideWord, endNumber, endFields, readEnd, rowRest, rowFields, readSetRow}
 use Rattle.netfile.specs.declared.line.EndLine.the-variants as end-line
 use Rattle.netfile.specs.declared.line.RowLine.the-variants as row-line
 
@@ -39,7 +39,7 @@ not-three (w ∷ a ∷ []) word h = (refl, refl)
 not-three (w ∷ a ∷ m ∷ []) word h = absurd (h refl)
 not-three (w ∷ a ∷ m ∷ x ∷ fs) word h = (refl, refl)
 
-module _ (line : List ℕ) (h : count comma line ≡ 2 → ⊥) where
+module _ (line : List ℕ) (h : occurrences comma line ≡ 2 → ⊥) where
   fields-not-three : length (split comma line) ≡ 3 → ⊥
   fields-not-three q = h (omega (arith, length-split comma line))
 
@@ -47,8 +47,8 @@ module _ (line : List ℕ) (h : count comma line ≡ 2 → ⊥) where
   unfolding readEnd
   end-commas word = not-three (split comma line) word fields-not-three .0
 
-  pub row-commas : readRow line ≡ row-line.Refused line-form
-  unfolding readRow
+  pub row-commas : readSetRow line ≡ row-line.Refused line-form
+  unfolding readSetRow
   row-commas = not-three (split comma line) [] fields-not-three .1
 
 -- ---- the start row and the end row with three fields
@@ -70,17 +70,17 @@ module _ (word line w a m : List ℕ) (f : split comma line ≡ w ∷ a ∷ m �
 -- ---- a row with three fields
 
 module _ (line w a m : List ℕ) (f : split comma line ≡ w ∷ a ∷ m ∷ []) where
-  row-three : readRow line ≡ cond (sameBytes w (sideWord Input)) (rowRest Input a m) (cond (sameBytes w (sideWord Output)) (rowRest Output a m) (row-line.Refused line-form))
-  unfolding readRow
+  row-three : readSetRow line ≡ cond (sameBytes w (sideWord Input)) (rowRest Input a m) (cond (sameBytes w (sideWord Output)) (rowRest Output a m) (row-line.Refused line-form))
+  unfolding readSetRow
   row-three = rw f
 
-  pub row-in : sameBytes w (sideWord Input) ≡ true → readRow line ≡ rowRest Input a m
+  pub row-in : sameBytes w (sideWord Input) ≡ true → readSetRow line ≡ rowRest Input a m
   row-in t = rw (row-three, t)
 
-  pub row-out : sameBytes w (sideWord Input) ≡ false → sameBytes w (sideWord Output) ≡ true → readRow line ≡ rowRest Output a m
+  pub row-out : sameBytes w (sideWord Input) ≡ false → sameBytes w (sideWord Output) ≡ true → readSetRow line ≡ rowRest Output a m
   row-out d t = rw (row-three, d, t)
 
-  pub row-other-word : sameBytes w (sideWord Input) ≡ false → sameBytes w (sideWord Output) ≡ false → readRow line ≡ row-line.Refused line-form
+  pub row-other-word : sameBytes w (sideWord Input) ≡ false → sameBytes w (sideWord Output) ≡ false → readSetRow line ≡ row-line.Refused line-form
   row-other-word d u = rw (row-three, d, u)
 
 module _ (side : Side) (a m : List ℕ) where

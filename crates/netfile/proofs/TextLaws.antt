@@ -25,7 +25,7 @@ use Rattle.net.specs.declared.Side.{Side}
 use Rattle.net.specs.declared.Side.the-variants.{Input, Output}
 use Rattle.net.proofs.OrderlyLaws.{orderly-ends, ends-facts, orderly-at-most, sets-length}
 use Rattle.netfile.specs.Limits.{netBytes}
-use Rattle.netfile.specs.NetFile.{netHeader, startWord, endWord, sideWord, rowText, setLines, setsLines, sideLines, activityLines, headLines, netLines, netText}
+use Rattle.netfile.specs.NetFile.{netHeader, startWord, endWord, sideWord, setRowText, setLines, setsLines, sideLines, activityLines, headLines, netLines, netText}
 
 -- ---- the first three lines
 
@@ -49,7 +49,7 @@ module _ (side : Side) (a m : ℕ) where
   unfolding setLines
   set-none e = rw (eq-eqb m 0 e)
 
-  pub set-row : (m ≡ 0 → ⊥) → setLines side a m ≡ rowText side a m ∷ []
+  pub set-row : (m ≡ 0 → ⊥) → setLines side a m ≡ setRowText side a m ∷ []
   unfolding setLines
   set-row d = rw (ne-eqb m 0 d)
 

@@ -30,7 +30,7 @@ use Rattle.net.proofs.PutLaws.{put-says-side}
 use Rattle.net.proofs.WithinLaws.{contained-same, put-accepts-within, put-keeps-within, same-empty}
 use Rattle.net.proofs.SentenceLaws.{Told, told-end, told-value, whole-link, chain-listed, accepted-not-refused}
 use Rattle.net.proofs.CommonLaws.{orderly-link}
-use Rattle.netfile.specs.NetFile.{readRow, rowSays, rowGives, Reading, readAs, readRows, fromEnd, fromStart, fromHeader, readNet, activityLines, headLines, netLines, netText, writeRefusals, writeSays, writeGives}
+use Rattle.netfile.specs.NetFile.{readSetRow, rowSays, rowGives, FileReading, readAs, readRows, fromEnd, fromStart, fromHeader, readNet, activityLines, headLines, netLines, netText, writeRefusals, writeSays, writeGives}
 use Rattle.netfile.specs.Statements.{NetListed, WriteListed, WriteSaid, RefusedFresh, LinesRead, HasRow, NetAccepted, ReadSaid, SameRowsSameNet, ReadOrderly, RowSaysSide, RoundTrip, WrittenRead, ReadAgain}
 use Rattle.netfile.proofs.PutRowLaws.{row-orderly}
 use Rattle.netfile.proofs.FileLaws.{read-short}
@@ -54,10 +54,10 @@ module _ (whole : Net) (q : orderly whole ≡ true) (w : MaskSets whole) where
   rows-accepted n net [] o c f = (refl, c)
   rows-accepted n net (l ∷ ls) o c f =
       let r = f l (List·Memᴰ·head refl) in
-      let e = ap readRow (r .is-text) ∙ row-back (r .side) (r .activity) (r .set) (r .low) (r .some) (w (r .side) (r .activity) (r .set) (r .on)) in
-      let ok : rowSays net (readRow l) .ok ≡ true = rw e (put-accepts-within net whole o q c (r .side) (r .activity) (r .set) (r .low) (r .some) (r .on)) in
-      let d : Contained (rowGives net (readRow l)) whole = rw e (put-keeps-within net whole o q c (r .side) (r .activity) (r .set) (r .low) (r .some) (r .on)) in
-      rw ok (rows-accepted (n + 1) (rowGives net (readRow l)) ls (row-orderly net (readRow l) o) d (λ line i. f line (List·Memᴰ·tail i)))
+      let e = ap readSetRow (r .is-text) ∙ row-back (r .side) (r .activity) (r .set) (r .low) (r .some) (w (r .side) (r .activity) (r .set) (r .on)) in
+      let ok : rowSays net (readSetRow l) .ok ≡ true = rw e (put-accepts-within net whole o q c (r .side) (r .activity) (r .set) (r .low) (r .some) (r .on)) in
+      let d : Contained (rowGives net (readSetRow l)) whole = rw e (put-keeps-within net whole o q c (r .side) (r .activity) (r .set) (r .low) (r .some) (r .on)) in
+      rw ok (rows-accepted (n + 1) (rowGives net (readSetRow l)) ls (row-orderly net (readSetRow l) o) d (λ line i. f line (List·Memᴰ·tail i)))
 
   ends : endsOk (whole .start) (whole .end) ≡ true
   ends = orderly-ends whole q
@@ -66,7 +66,7 @@ module _ (whole : Net) (q : orderly whole ≡ true) (w : MaskSets whole) where
   fresh = freshNet (whole .start) (whole .end)
 
   -- the rows after the first three lines of the text, put into the fresh net
-  after : Reading
+  after : FileReading
   after = readRows 4 fresh (activityLines whole activities 0)
 
   empty-side : (side : Side) → emptyAt fresh side ≡ emptyAt whole side
@@ -125,7 +125,7 @@ module _ (whole : Net) (q : orderly whole ≡ true) (w : MaskSets whole) where
         ne-eqb (whole .start) (whole .end) (f .2),
       )
 
-reading-ext : (r : Reading) (s : Says) (net : Net) → r .says ≡ s → r .net ≡ net → r ≡ record { says = s; net = net }
+reading-ext : (r : FileReading) (s : Says) (net : Net) → r .says ≡ s → r .net ≡ net → r ≡ record { says = s; net = net }
 reading-ext r s net p q = rw (← p, ← q)
 
 sets-back : (net : Net) → orderly net ≡ true → MaskSets net → readNet (netText net) ≡ readAs net

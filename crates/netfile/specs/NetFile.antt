@@ -95,8 +95,8 @@ rowFields (w ∷ a ∷ m ∷ []) =
     (cond (sameBytes w (sideWord Output)) (rowRest Output a m) (row-line.Refused line-form))
 rowFields (w ∷ a ∷ m ∷ x ∷ fs) = row-line.Refused line-form
 
-unfoldable pub readRow : List ℕ → RowLine
-readRow line = rowFields (split comma line)
+unfoldable pub readSetRow : List ℕ → RowLine
+readSetRow line = rowFields (split comma line)
 
 -- what is said of a row's set for a net, and the net with it: 5 and 12 are those of put
 abbrev pub rowSays : Net → RowLine → Says
@@ -115,52 +115,52 @@ netMeans net-answer.Read = accepted 0
 netMeans (net-answer.Refused n p) = refused n p
 
 -- what is read: what the reader has to say and the net that it has to return
-pub record Reading : Type 0 where
+pub record FileReading : Type 0 where
   pub says : Says
   pub net : Net
 
-abbrev pub readAs : Net → Reading
+abbrev pub readAs : Net → FileReading
 readAs net = record { says = netMeans net-answer.Read; net = net }
 
 -- a refused reading returns the fresh net of 0 and 1
-abbrev pub refusedAt : ℕ → ℕ → Reading
+abbrev pub refusedAt : ℕ → ℕ → FileReading
 refusedAt n line = record { says = netMeans (net-answer.Refused n line); net = freshNet 0 1 }
 
 -- the rows on the lines from line n on, into a net
-unfoldable pub readRows : ℕ → Net → List (List ℕ) → Reading
+unfoldable pub readRows : ℕ → Net → List (List ℕ) → FileReading
 readRows n net [] = readAs net
 readRows n net (l ∷ ls) =
-    unlessBy refusedAt (rowSays net (readRow l) .ok) (rowSays net (readRow l) .refusal) n
-    (readRows (n + 1) (rowGives net (readRow l)) ls)
+    unlessBy refusedAt (rowSays net (readSetRow l) .ok) (rowSays net (readSetRow l) .refusal) n
+    (readRows (n + 1) (rowGives net (readSetRow l)) ls)
 
 -- line 3, the end row: 1 if the start is the end
-abbrev pub afterEnd : ℕ → EndLine → List (List ℕ) → Reading
+abbrev pub afterEnd : ℕ → EndLine → List (List ℕ) → FileReading
 afterEnd start (end-line.Activity end) ls = unlessBy refusedAt (not (eqb start end)) bad-ends 3 (readRows 4 (freshNet start end) ls)
 afterEnd start (end-line.Refused n) ls = refusedAt n 3
 
-unfoldable pub fromEnd : ℕ → List (List ℕ) → Reading
+unfoldable pub fromEnd : ℕ → List (List ℕ) → FileReading
 fromEnd start [] = refusedAt line-form 3
 fromEnd start (l ∷ ls) = afterEnd start (readEnd endWord l) ls
 
 -- line 2, the start row
-abbrev pub afterStart : EndLine → List (List ℕ) → Reading
+abbrev pub afterStart : EndLine → List (List ℕ) → FileReading
 afterStart (end-line.Activity start) ls = fromEnd start ls
 afterStart (end-line.Refused n) ls = refusedAt n 2
 
-unfoldable pub fromStart : List (List ℕ) → Reading
+unfoldable pub fromStart : List (List ℕ) → FileReading
 fromStart [] = refusedAt line-form 2
 fromStart (l ∷ ls) = afterStart (readEnd startWord l) ls
 
 -- line 1, the header
-unfoldable pub fromHeader : List (List ℕ) → Reading
+unfoldable pub fromHeader : List (List ℕ) → FileReading
 fromHeader [] = refusedAt line-form 1
 fromHeader (l ∷ ls) = unlessBy refusedAt (sameBytes l netHeader) line-form 1 (fromStart ls)
 
-unfoldable pub readNet : List ℕ → Reading
+unfoldable pub readNet : List ℕ → FileReading
 readNet text = unlessBy refusedAt (leb (length text) netBytes) outside-limits 0 (fromHeader (lines text))
 
 -- an answer and a net are what was to be read
-pub record Reads (d : Reading) (r : NetReading) : Type 0 where
+pub record Reads (d : FileReading) (r : NetReading) : Type 0 where
   pub says : netMeans (r .answer) ≡ d .says
   pub gives : r .net ≡ d .net
 
@@ -170,12 +170,12 @@ pub record Reads (d : Reading) (r : NetReading) : Type 0 where
 abbrev pub endText : List ℕ → ℕ → List ℕ
 endText word a = join comma (word ∷ printNumber a ∷ [] ∷ [])
 
-abbrev pub rowText : Side → ℕ → ℕ → List ℕ
-rowText side a m = join comma (sideWord side ∷ printNumber a ∷ printMembers m ∷ [])
+abbrev pub setRowText : Side → ℕ → ℕ → List ℕ
+setRowText side a m = join comma (sideWord side ∷ printNumber a ∷ printMembers m ∷ [])
 
 -- the rows of a set: the empty set has none
 unfoldable pub setLines : Side → ℕ → ℕ → List (List ℕ)
-setLines side a m = cond (eqb m 0) [] (rowText side a m ∷ [])
+setLines side a m = cond (eqb m 0) [] (setRowText side a m ∷ [])
 
 -- the rows of the sets on a side of activity a
 unfoldable pub setsLines : Side → ℕ → List ℕ → List (List ℕ)

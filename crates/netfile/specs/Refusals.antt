@@ -7,7 +7,7 @@ use mathlib.Core.List.{List, [], _∷_}
 use mathlib.Core.Logic.{_⊎_}
 use lib.ListN.{length, getD}
 use Rattle.obligations.specs.Limits.{activities, masks}
-use Rattle.text.specs.Bytes.{count}
+use Rattle.text.specs.Bytes.{occurrences}
 use Rattle.text.specs.Lines.{HasLine, lineAt}
 use Rattle.text.specs.Fields.{comma, split}
 use Rattle.text.specs.Decimal.{printNumber}
@@ -19,7 +19,7 @@ use Rattle.net.specs.Lists.{AtMost}
 use Rattle.net.specs.declared.Side.{Side}
 use Rattle.net.specs.declared.Side.the-variants.{Input, Output}
 use Rattle.netfile.specs.Limits.{netBytes}
-use Rattle.netfile.specs.NetFile.{netHeader, startWord, endWord, sideWord, endText, rowText}
+use Rattle.netfile.specs.NetFile.{netHeader, startWord, endWord, sideWord, endText, setRowText}
 
 -- ---- a line and its fields
 
@@ -39,8 +39,8 @@ pub record IsEnd (word : List ℕ) (a : ℕ) (line : List ℕ) : Type 0 where
   pub is-activity : a < activities
 
 -- a line is the row of the set m on activity a's side, as it is written
-pub record IsRow (side : Side) (a m : ℕ) (line : List ℕ) : Type 0 where
-  pub is-text : line ≡ rowText side a m
+pub record IsSetRow (side : Side) (a m : ℕ) (line : List ℕ) : Type 0 where
+  pub is-text : line ≡ setRowText side a m
   pub is-activity : a < activities
   pub not-empty : 0 < m
   pub is-mask : m < masks
@@ -49,7 +49,7 @@ pub record IsRow (side : Side) (a m : ℕ) (line : List ℕ) : Type 0 where
 
 -- 13: the line hasn't two commas, its word is another, or members are present
 pub data EndFormWrong (word line : List ℕ) : Type 0 where
-  end-commas : (count comma line ≡ 2 → ⊥) → EndFormWrong word line
+  end-commas : (occurrences comma line ≡ 2 → ⊥) → EndFormWrong word line
   end-word : (wordOf line ≡ word → ⊥) → EndFormWrong word line
   end-members : (membersIn line ≡ [] → ⊥) → EndFormWrong word line
 
@@ -67,7 +67,7 @@ pub record SameEnds (text : List ℕ) : Type 0 where
 
 -- 13: the line hasn't two commas, its word is no side's, or its members are missing
 pub data RowFormWrong (line : List ℕ) : Type 0 where
-  row-commas : (count comma line ≡ 2 → ⊥) → RowFormWrong line
+  row-commas : (occurrences comma line ≡ 2 → ⊥) → RowFormWrong line
   row-word : ((side : Side) → wordOf line ≡ sideWord side → ⊥) → RowFormWrong line
   row-members : membersIn line ≡ [] → RowFormWrong line
 
@@ -85,7 +85,7 @@ pub record MisplacedRow (text : List ℕ) (n : ℕ) : Type 0 where
   pub side : Side
   pub activity : ℕ
   pub set : ℕ
-  pub is-row : IsRow side activity set (lineAt text n)
+  pub is-row : IsSetRow side activity set (lineAt text n)
   pub only-empty : HoldsEmpty text side activity
 
 -- a line from 4 to n is the row of m on activity a's side
@@ -93,14 +93,14 @@ pub record RowUpTo (text : List ℕ) (n : ℕ) (side : Side) (a m : ℕ) : Type 
   pub line : ℕ
   pub low : 4 ≤ line
   pub high : line ≤ n
-  pub is-row : IsRow side a m (lineAt text line)
+  pub is-row : IsSetRow side a m (lineAt text line)
 
 -- 12: with the row's set its side would exceed 16 sets
 pub record FullSide (text : List ℕ) (n : ℕ) : Type 0 where
   pub side : Side
   pub activity : ℕ
   pub set : ℕ
-  pub is-row : IsRow side activity set (lineAt text n)
+  pub is-row : IsSetRow side activity set (lineAt text n)
   pub too-many : AtMost sets (RowUpTo text n side activity) → ⊥
 
 -- ---- the sentences of each line
@@ -111,8 +111,8 @@ endRefusals text n word others =
     ∷ whole number-form (ActivityWrong (lineAt text n))
     ∷ others
 
-abbrev pub rowRefusals : List ℕ → ℕ → List Sentence
-rowRefusals text n =
+abbrev pub setRowRefusals : List ℕ → ℕ → List Sentence
+setRowRefusals text n =
     whole line-form (HasLine text n × RowFormWrong (lineAt text n))
     ∷ whole number-form (HasLine text n × (ActivityWrong (lineAt text n) ⊎ MembersWrong (lineAt text n)))
     ∷ whole misplaced-set (MisplacedRow text n)
@@ -126,4 +126,4 @@ netRefusals text zero = whole outside-limits (netBytes < length text) ∷ []
 netRefusals text (suc zero) = whole line-form ((HasLine text 1 → ⊥) ⊎ (lineAt text 1 ≡ netHeader → ⊥)) ∷ []
 netRefusals text (suc (suc zero)) = endRefusals text 2 startWord []
 netRefusals text (suc (suc (suc zero))) = endRefusals text 3 endWord (whole bad-ends (SameEnds text) ∷ [])
-netRefusals text (suc (suc (suc (suc n)))) = rowRefusals text (suc (suc (suc (suc n))))
+netRefusals text (suc (suc (suc (suc n)))) = setRowRefusals text (suc (suc (suc (suc n))))

@@ -17,8 +17,8 @@ use Rattle.net.specs.declared.Net.{Net}
 use Rattle.net.specs.declared.Side.{Side}
 use Rattle.net.specs.declared.Side.the-variants.{Input, Output}
 use Rattle.netfile.specs.Limits.{netBytes}
-use Rattle.netfile.specs.NetFile.{netHeader, startWord, endWord, readEnd, readRow, rowSays, netMeans, readAs, readNet, endText, netText, writeMeans, writeRefusals, writeSays, writeGives}
-use Rattle.netfile.specs.Refusals.{IsEnd, IsRow, netRefusals}
+use Rattle.netfile.specs.NetFile.{netHeader, startWord, endWord, readEnd, readSetRow, rowSays, netMeans, readAs, readNet, endText, netText, writeMeans, writeRefusals, writeSays, writeGives}
+use Rattle.netfile.specs.Refusals.{IsEnd, IsSetRow, netRefusals}
 use Rattle.netfile.specs.declared.line.EndLine.the-variants.{Activity}
 use Rattle.netfile.specs.declared.line.RowLine.the-variants.{Set}
 use Rattle.netfile.specs.declared.NetAnswer.the-variants.{Read, Refused}
@@ -49,13 +49,13 @@ LinesRead =
     (line : List ℕ)
     → ((a : ℕ) → (readEnd startWord line ≡ Activity a) ↔ IsEnd startWord a line)
     × ((a : ℕ) → (readEnd endWord line ≡ Activity a) ↔ IsEnd endWord a line)
-    × ((side : Side) (a m : ℕ) → (readRow line ≡ Set side a m) ↔ IsRow side a m line)
+    × ((side : Side) (a m : ℕ) → (readSetRow line ≡ Set side a m) ↔ IsSetRow side a m line)
 
 -- one of the lines is the row of m on activity a's side
 pub record HasRow (ls : List (List ℕ)) (side : Side) (a m : ℕ) : Type 0 where
   pub line : List ℕ
   pub there : List·Memᴰ line ls
-  pub is-row : IsRow side a m line
+  pub is-row : IsSetRow side a m line
 
 -- a net file as it has to be
 pub record Readable (text : List ℕ) : Type 0 where
@@ -67,7 +67,7 @@ pub record Readable (text : List ℕ) : Type 0 where
   pub start-activity : start < activities
   pub end-activity : end < activities
   pub differ : start ≡ end → ⊥
-  pub all-rows : (line : List ℕ) → List·Memᴰ line rows → (side : Side) × (a : ℕ) × (m : ℕ) × IsRow side a m line
+  pub all-rows : (line : List ℕ) → List·Memᴰ line rows → (side : Side) × (a : ℕ) × (m : ℕ) × IsSetRow side a m line
   pub no-start-input : (m : ℕ) → HasRow rows Input start m → ⊥
   pub no-end-output : (m : ℕ) → HasRow rows Output end m → ⊥
   pub at-most : (side : Side) (a : ℕ) → AtMost sets (HasRow rows side a)
@@ -111,8 +111,8 @@ ReadOrderly = (text : List ℕ) → Orderly (readNet text .net)
 -- of a row that is read only 5 and 12 are left to say, which are its side's to say
 abbrev pub RowSaysSide : Type 0
 RowSaysSide =
-    (net : Net) (line : List ℕ) (side : Side) (a m : ℕ) → Orderly net → IsRow side a m line
-    → rowSays net (readRow line) ≡ sideSays (masksOf net side) (lengthsOf net side) (emptyAt net side) a m
+    (net : Net) (line : List ℕ) (side : Side) (a m : ℕ) → Orderly net → IsSetRow side a m line
+    → rowSays net (readSetRow line) ≡ sideSays (masksOf net side) (lengthsOf net side) (emptyAt net side) a m
 
 -- ---- what is written is read again
 

@@ -16,7 +16,7 @@ ghost use mathlib.Core.Path.{_≡_};
 ghost use Prim.Native.Nat.{_+_, _≤_, _<_};
 ghost use lib.ListN.{length};
 ghost use lib.Seq.{slice};
-ghost use Rattle.netfile.specs.NetFile.{readEnd, rowRest, readRow};
+ghost use Rattle.netfile.specs.NetFile.{readEnd, rowRest, readSetRow};
 
 // The start's or the end's activity. Refused: the refusal's number.
 pub enum EndLine {
@@ -56,7 +56,7 @@ pub fn end_line(s: &[u8], i: usize, e: usize, word: &[u8]) -> EndLine
 // The row in s[i..e].
 pub fn row_line(s: &[u8], i: usize, e: usize) -> RowLine
     requires { ⌜ (i ≤ e) × (e ≤ length (now s)) ⌝ }
-    ensures { λ r. ⌜ r ≡ readRow (slice i e (now (s .entry))) ⌝ }
+    ensures { λ r. ⌜ r ≡ readSetRow (slice i e (now (s .entry))) ⌝ }
 {
     if count_byte(s, i, e, b',') != 2 {
         return RowLine::Refused(LINE_FORM);

@@ -14,7 +14,7 @@ use lib.Dec.{leb, lit<}
 use lib.ListN.{length, getD, set, length-set, length-map, List·getD-eq-default}
 use lib.Pow.{pow-pos}
 use Rattle.obligations.specs.Sets.{bit, single, keep, membersFrom, members, size}
-use Rattle.obligations.specs.State.{places, allDue, lowered, raised, State}
+use Rattle.obligations.specs.State.{placesOf, allDue, lowered, raised, State}
 use Rattle.obligations.proofs.BoolLaws.{and-left, and-right, and-both}
 use Rattle.obligations.proofs.BitLaws.{bit-lt, bit-zero, bit-suc, same, same-refl, same-cases, same-ne}
 use Rattle.obligations.proofs.SetLaws.{lt-or-le}
@@ -144,12 +144,12 @@ module _ (base stride : ℕ) where
       suc-lt : {p : ℕ} → p < n → suc p < suc n
       suc-lt l = omega arith
 
-  pub places-found : (m j : ℕ) → 0 < occ j (places base stride m) → (p : ℕ) × (p < 32) × (j ≡ base + p * stride) × (bit m p ≡ 1)
-  unfolding places members
+  pub places-found : (m j : ℕ) → 0 < occ j (placesOf base stride m) → (p : ℕ) × (p < 32) × (j ≡ base + p * stride) × (bit m p ≡ 1)
+  unfolding placesOf members
   places-found m j h = let f = found 32 0 m j h in (f .0, f .1, f .2 ∙ ap (λ (i : ℕ). base + i * stride) (omega arith), f .3)
 
-  pub places-off : (m j : ℕ) → ((p : ℕ) → p < 32 → j ≡ base + p * stride → ⊥) → occ j (places base stride m) ≡ 0
-  places-off m j ne = ⊎-elim (λ z. z) (λ h. let f = places-found m j h in absurd (ne (f .0) (f .1) (f .2))) (eq-zero-or-pos (occ j (places base stride m)))
+  pub places-off : (m j : ℕ) → ((p : ℕ) → p < 32 → j ≡ base + p * stride → ⊥) → occ j (placesOf base stride m) ≡ 0
+  places-off m j ne = ⊎-elim (λ z. z) (λ h. let f = places-found m j h in absurd (ne (f .0) (f .1) (f .2))) (eq-zero-or-pos (occ j (placesOf base stride m)))
 
   module _ (apart : 0 < stride) where
     after-keep : (b k : ℕ) (ks : List ℕ) (j : ℕ) → j < placed base stride k → occ j (map (placed base stride) ks) ≡ 0 → occ j (map (placed base stride) (keep b k ks)) ≡ 0
@@ -190,39 +190,39 @@ module _ (base stride : ℕ) where
         past : (p : ℕ) → placed base stride k < base + (k + suc p) * stride
         past p = let h : suc k * stride ≤ (k + suc p) * stride = mul-le-mul-right stride (omega arith) in omega arith
 
-    pub places-at : (m p : ℕ) → p < 32 → occ (base + p * stride) (places base stride m) ≡ bit m p
-    unfolding places members
+    pub places-at : (m p : ℕ) → p < 32 → occ (base + p * stride) (placesOf base stride m) ≡ bit m p
+    unfolding placesOf members
     places-at m p h = ap (λ (j : ℕ). occ (base + j * stride) (map (placed base stride) (membersFrom 32 0 m))) (omega arith) ∙ place-at 32 0 m p h
 
     -- no place is selected twice
-    pub places-once : (m j : ℕ) → occ j (places base stride m) ≤ 1
-    places-once m j = ⊎-elim (λ z. omega arith) twice (eq-zero-or-pos (occ j (places base stride m)))
+    pub places-once : (m j : ℕ) → occ j (placesOf base stride m) ≤ 1
+    places-once m j = ⊎-elim (λ z. omega arith) twice (eq-zero-or-pos (occ j (placesOf base stride m)))
       where
-        twice : 0 < occ j (places base stride m) → occ j (places base stride m) ≤ 1
+        twice : 0 < occ j (placesOf base stride m) → occ j (placesOf base stride m) ≤ 1
         twice h =
             let f = places-found m j h in
-            let e : occ j (places base stride m) ≡ bit m (f .0) = ap (λ (i : ℕ). occ i (places base stride m)) (f .2) ∙ places-at m (f .0) (f .1) in
+            let e : occ j (placesOf base stride m) ≡ bit m (f .0) = ap (λ (i : ℕ). occ i (placesOf base stride m)) (f .2) ∙ places-at m (f .0) (f .1) in
             omega (arith, bit-lt m (f .0))
 
     -- what the walks need: counts that are due can be lowered, and counts of a state raised
-    pub due-covers : (d : List ℕ) (m : ℕ) → allDue d (places base stride m) ≡ true → Covers d (places base stride m)
+    pub due-covers : (d : List ℕ) (m : ℕ) → allDue d (placesOf base stride m) ≡ true → Covers d (placesOf base stride m)
     unfolding Covers
-    due-covers d m e j = ⊎-elim (λ z. omega arith) (λ p. omega (arith, places-once m j, due-at d (places base stride m) e j p)) (eq-zero-or-pos (occ j (places base stride m)))
+    due-covers d m e j = ⊎-elim (λ z. omega arith) (λ p. omega (arith, places-once m j, due-at d (placesOf base stride m) e j p)) (eq-zero-or-pos (occ j (placesOf base stride m)))
 
-    pub state-room : (d : List ℕ) (m : ℕ) → State 254 d → Room d (places base stride m)
+    pub state-room : (d : List ℕ) (m : ℕ) → State 254 d → Room d (placesOf base stride m)
     unfolding Room
     state-room d m s j = omega (arith, s .small j, places-once m j)
 
-pub places-none : (base stride : ℕ) → places base stride 0 ≡ []
-unfolding places
+pub places-none : (base stride : ℕ) → placesOf base stride 0 ≡ []
+unfolding placesOf
 places-none base stride = ap (map (λ (k : ℕ). base + k * stride)) members-none
 
-pub places-single : (base stride a : ℕ) → a < 32 → places base stride (single a) ≡ (base + a * stride) ∷ []
-unfolding places
+pub places-single : (base stride a : ℕ) → a < 32 → placesOf base stride (single a) ≡ (base + a * stride) ∷ []
+unfolding placesOf
 places-single base stride a h = ap (map (λ (k : ℕ). base + k * stride)) (members-single a h)
 
-pub places-size : (base stride m : ℕ) → length (places base stride m) ≡ size m
-unfolding places size
+pub places-size : (base stride m : ℕ) → length (placesOf base stride m) ≡ size m
+unfolding placesOf size
 places-size base stride m = length-map (members m) (λ k. base + k * stride)
 
 -- ---- one turn of a walk over a set's members, by `rest &= rest - 1`
@@ -232,10 +232,10 @@ pub record Turn (base stride rest : ℕ) : Type 0 where
   pub scaled : trailingZeros 32 rest * stride ≤ 31 * stride
   pub place : base + trailingZeros 32 rest * stride < 1024
   pub less : bitAnd rest (rest - 1) < rest
-  pub walked : places base stride rest ≡ (base + trailingZeros 32 rest * stride) ∷ places base stride (bitAnd rest (rest - 1))
+  pub walked : placesOf base stride rest ≡ (base + trailingZeros 32 rest * stride) ∷ placesOf base stride (bitAnd rest (rest - 1))
 
 pub turn : (base stride rest : ℕ) → base + 31 * stride < 1024 → (rest ≡ 0 → ⊥) → rest < 2 ^ 32 → Turn base stride rest
-unfolding places
+unfolding placesOf
 turn base stride rest hb ne h =
     let p : 0 < rest = omega arith in
     let l = lowest-digit 32 rest p h in

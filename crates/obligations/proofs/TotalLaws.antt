@@ -10,7 +10,7 @@ use borrow.Author.Tests.{eq-eqb, eqb-true}
 use lib.Dec.{eqb, lit<}
 use lib.ListN.{length, getD, set, length-set}
 use Rattle.obligations.specs.Sets.{keep, membersFrom, members, size}
-use Rattle.obligations.specs.State.{places, inputs, outputs, lowered, raised, possible, taken, added, after, total, allZero}
+use Rattle.obligations.specs.State.{placesOf, inputs, outputs, lowered, raised, possible, taken, added, after, total, allZero}
 use Rattle.obligations.proofs.BoolLaws.{and-left, and-right, and-both}
 use Rattle.obligations.proofs.PlaceLaws.{Covers, covers-head, covers-next, due-covers, placed, places-size}
 use Rattle.obligations.proofs.StateLaws.{length-taken}
@@ -55,8 +55,8 @@ within-from (suc n) base stride k m h =
     within-keep (m % 2) base stride k (membersFrom n (suc k) (m / 2)) (let l : suc k * stride ≤ (k + suc n) * stride = mul-le-mul-right stride (omega arith) in omega arith)
     (within-from n base stride (suc k) (m / 2) (omega arith))
 
-places-within : (base stride m : ℕ) → base + 31 * stride < 1024 → Within 1024 (places base stride m)
-unfolding places members
+places-within : (base stride m : ℕ) → base + 31 * stride < 1024 → Within 1024 (placesOf base stride m)
+unfolding placesOf members
 places-within base stride m h = within-from 32 base stride 0 m (omega arith)
 
 -- ---- the parts of a step, and the step

@@ -17,16 +17,16 @@ abbrev pub nothing : List ℕ
 nothing = replicate pairs 0
 
 -- the places that a set selects: one for each member k, at base + k * stride
-unfoldable pub places : ℕ → ℕ → ℕ → List ℕ
-places base stride m = map (λ k. base + k * stride) (members m)
+unfoldable pub placesOf : ℕ → ℕ → ℕ → List ℕ
+placesOf base stride m = map (λ k. base + k * stride) (members m)
 
 -- the places of (p, a) for p in x
 unfoldable pub inputs : ℕ → ℕ → List ℕ
-inputs a x = places (a * activities) 1 x
+inputs a x = placesOf (a * activities) 1 x
 
 -- the places of (a, q) for q in y
 unfoldable pub outputs : ℕ → ℕ → List ℕ
-outputs a y = places a activities y
+outputs a y = placesOf a activities y
 
 -- each of the places has a count of at least 1
 unfoldable pub allDue : List ℕ → List ℕ → Bool

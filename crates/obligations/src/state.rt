@@ -10,7 +10,7 @@ ghost use mathlib.Core.Bool.{true};
 ghost use Prim.Native.Nat.{_<_, _+_, _*_};
 ghost use lib.ListN.{length};
 ghost use Rattle.obligations.specs.Limits.{activities, pairs};
-ghost use Rattle.obligations.specs.State.{places, allDue, lowered, raised, possible, taken, added, stepped, covers, unadded, untaken, before, allZero, State};
+ghost use Rattle.obligations.specs.State.{placesOf, allDue, lowered, raised, possible, taken, added, stepped, covers, unadded, untaken, before, allZero, State};
 
 // Whether the binding of a with the input set x is possible: every (p, a) with p in x has a count of at least 1.
 pub fn is_possible(due: &[u8; 1024], a: u32, x: u32) -> bool
@@ -100,7 +100,7 @@ pub fn is_zero(due: &[u8; 1024]) -> bool
 // Whether each place base + k * stride, for k in the set, has a count of at least 1.
 fn all_due(due: &[u8; 1024], base: u32, stride: u32, set: u32) -> bool
     requires { ⌜ base + 31 * stride < pairs ⌝ }
-    ensures { λ r. ⌜ r ≡ allDue (now (due .entry)) (places base stride set) ⌝ }
+    ensures { λ r. ⌜ r ≡ allDue (now (due .entry)) (placesOf base stride set) ⌝ }
 {
     let mut rest = set;
     while rest != 0 {
@@ -117,8 +117,8 @@ fn all_due(due: &[u8; 1024], base: u32, stride: u32, set: u32) -> bool
 // Takes one from each place base + k * stride, for k in the set.
 fn lower(due: &mut [u8; 1024], base: u32, stride: u32, set: u32)
     requires { ⌜ (base + 31 * stride < pairs) × (0 < stride) ⌝ }
-    requires { ⌜ allDue (now due) (places base stride set) ≡ true ⌝ }
-    ensures { λ _. ⌜ now (due .exit) ≡ lowered (now (due .entry)) (places base stride set) ⌝ }
+    requires { ⌜ allDue (now due) (placesOf base stride set) ≡ true ⌝ }
+    ensures { λ _. ⌜ now (due .exit) ≡ lowered (now (due .entry)) (placesOf base stride set) ⌝ }
 {
     let mut rest = set;
     while rest != 0 {
@@ -133,7 +133,7 @@ fn lower(due: &mut [u8; 1024], base: u32, stride: u32, set: u32)
 fn raise(due: &mut [u8; 1024], base: u32, stride: u32, set: u32)
     requires { ⌜ (base + 31 * stride < pairs) × (0 < stride) ⌝ }
     requires { ⌜ State 254 (now due) ⌝ }
-    ensures { λ _. ⌜ now (due .exit) ≡ raised (now (due .entry)) (places base stride set) ⌝ }
+    ensures { λ _. ⌜ now (due .exit) ≡ raised (now (due .entry)) (placesOf base stride set) ⌝ }
 {
     let mut rest = set;
     while rest != 0 {

@@ -6,7 +6,7 @@ use mathlib.Core.List.{List, [], _∷_, _++_, map}
 use lib.ListN.{replicate}
 use Rattle.obligations.specs.Tests.{number, firstFrom, firstFailing}
 use Rattle.obligations.specs.Sets.{bit, member, single, union, keep, membersFrom, members}
-use Rattle.obligations.specs.State.{places, inputs, outputs, allDue, lowered, raised, possible, taken, added, after, allZero, total}
+use Rattle.obligations.specs.State.{placesOf, inputs, outputs, allDue, lowered, raised, possible, taken, added, after, allZero, total}
 use Rattle.obligations.specs.Trace.{firstNoActivity, endsAgree, shaped}
 use Rattle.obligations.specs.Sequence.{bindings, run, possibleAt, firstImpossible}
 use Rattle.obligations.specs.Examples.{fig4}
@@ -22,7 +22,7 @@ use Rattle.net.specs.declared.Side.the-variants.{Output}
 use Rattle.net.specs.declared.ContainedAnswer.the-variants.{Yes, No}
 use Rattle.walks.specs.Below.{anyBelow, sumBelow, withIf, thoseBelow, those}
 use Rattle.walks.specs.Arcs.{named, names, arc, arcs}
-use Rattle.walks.specs.Rows.{rowsFrom, rows, unionFrom, grown as grownBy, rounds, reach}
+use Rattle.walks.specs.Rows.{rowsFrom, rows, unionFrom, oneRound, rounds, reach}
 use Rattle.walks.specs.Check.{onSides, inNet, successors, predecessors, outside, lost, lowestMember, checkMeans, checkSays}
 use Rattle.walks.specs.declared.CheckAnswer.the-variants.{Passed}
 use Rattle.sequences.specs.Limits.{wordsWithin, withinLimits, traceWithinLimits}
@@ -33,13 +33,13 @@ use Rattle.sequences.specs.declared.LearnAnswer.the-variants.{Learned, Refused}
 use Rattle.sequences.specs.Follow.{followedFrom, followPositions, followSays, followGives}
 use Rattle.search.specs.Search.{trialsOf, later, orElse, behind, trialIf, trial, tryOutputs, tryInputs, atEnd, searchFrom, searchOf}
 use Rattle.search.specs.Trace.{hasRoom}
-use Rattle.search.specs.Replay.{endSays, replayed, within, checkedSays, replayTests, replaySays}
+use Rattle.search.specs.Replay.{endSays, replayed, withinBudget, checkedSays, replayTests, replaySays}
 use Rattle.promises.specs.Calls.{Call, learn, follow, grown, answers}
 use Rattle.promises.specs.Marked.{Marked}
 
 -- the marked examples
 pub marked : Marked
-unfolding freshGives judgeSays judgePositions runSays firstMissing onSideAt learnSays learnGives withinLimits wordsWithin bindings firstNoActivity firstFailing firstFrom learnPositions shaped endsAgree firstWronglyEmpty emptyAgree firstImpossible possibleAt possible run after taken added inputs outputs places members membersFrom keep allDue lowered raised allZero fits takesBinding takesPut withBinding withPut gained sideSays misplaced listed insert grows putMasks putLengths total freshNet orderly sized endsOk sidesOk blockOk allBelow ascendsAbove zeros trialsOf later orElse behind trialIf trial tryOutputs tryInputs atEnd searchFrom searchOf endSays replayed within checkedSays hasRoom replayTests replaySays checkSays lowestMember lost outside successors predecessors inNet onSides reach rounds grownBy unionFrom rows rowsFrom arcs arc names named those thoseBelow withIf sumBelow number anyBelow union single member bit F fig4 answers
+unfolding freshGives judgeSays judgePositions runSays firstMissing onSideAt learnSays learnGives withinLimits wordsWithin bindings firstNoActivity firstFailing firstFrom learnPositions shaped endsAgree firstWronglyEmpty emptyAgree firstImpossible possibleAt possible run after taken added inputs outputs placesOf members membersFrom keep allDue lowered raised allZero fits takesBinding takesPut withBinding withPut gained sideSays misplaced listed insert grows putMasks putLengths total freshNet orderly sized endsOk sidesOk blockOk allBelow ascendsAbove zeros trialsOf later orElse behind trialIf trial tryOutputs tryInputs atEnd searchFrom searchOf endSays replayed withinBudget checkedSays hasRoom replayTests replaySays checkSays lowestMember lost outside successors predecessors inNet onSides reach rounds oneRound unionFrom rows rowsFrom arcs arc names named those thoseBelow withIf sumBelow number anyBelow union single member bit F fig4 answers
 marked = (refl, refl, refl, refl, refl, refl, refl, refl, refl, refl, refl, refl, refl)
 
 -- F is what three sequences give
@@ -47,7 +47,7 @@ F-grown :
     grown (freshNet 0 3)
     (learn (0 ∷ 0 ∷ 2 ∷ 1 ∷ 1 ∷ 8 ∷ 3 ∷ 2 ∷ 0 ∷ []) ∷ follow (0 ∷ 2 ∷ 3 ∷ []) ∷ learn (0 ∷ 0 ∷ 6 ∷ 1 ∷ 1 ∷ 8 ∷ 2 ∷ 1 ∷ 8 ∷ 3 ∷ 6 ∷ 0 ∷ []) ∷ [])
     ≡ F
-unfolding learnSays learnGives withinLimits wordsWithin bindings firstNoActivity firstFailing firstFrom learnPositions shaped endsAgree firstWronglyEmpty emptyAgree firstImpossible possibleAt possible run after taken added inputs outputs places members membersFrom keep allDue lowered raised allZero fits takesBinding takesPut withBinding withPut gained sideSays misplaced listed insert grows putMasks putLengths total freshNet orderly sized endsOk sidesOk blockOk allBelow ascendsAbove zeros followSays followGives traceWithinLimits followPositions followedFrom single F grown
+unfolding learnSays learnGives withinLimits wordsWithin bindings firstNoActivity firstFailing firstFrom learnPositions shaped endsAgree firstWronglyEmpty emptyAgree firstImpossible possibleAt possible run after taken added inputs outputs placesOf members membersFrom keep allDue lowered raised allZero fits takesBinding takesPut withBinding withPut gained sideSays misplaced listed insert grows putMasks putLengths total freshNet orderly sized endsOk sidesOk blockOk allBelow ascendsAbove zeros followSays followGives traceWithinLimits followPositions followedFrom single F grown
 F-grown = refl
 
 -- ---- passing nets that contain the grown net and that don't
@@ -70,7 +70,7 @@ nets :
     × (map checkSays (net ∷ larger ∷ other ∷ []) ≡ map checkMeans (Passed 7 ∷ Passed 8 ∷ Passed 1 ∷ []))
     × (containedSays net larger ≡ containedMeans Yes)
     × (containedSays net other ≡ containedMeans No)
-unfolding learnSays learnGives withinLimits wordsWithin bindings firstNoActivity firstFailing firstFrom learnPositions shaped endsAgree firstWronglyEmpty emptyAgree firstImpossible possibleAt possible run after taken added inputs outputs places members membersFrom keep allDue lowered raised allZero fits takesBinding takesPut withBinding withPut gained sideSays misplaced listed insert grows putMasks putLengths total freshNet orderly sized endsOk sidesOk blockOk allBelow ascendsAbove zeros followSays followGives traceWithinLimits followPositions followedFrom single checkSays lowestMember lost outside successors predecessors inNet onSides reach rounds grownBy unionFrom rows rowsFrom arcs arc names named those thoseBelow withIf sumBelow number anyBelow union member bit containedSays contained sidesWithin allListed calls more others fig4 grown answers
+unfolding learnSays learnGives withinLimits wordsWithin bindings firstNoActivity firstFailing firstFrom learnPositions shaped endsAgree firstWronglyEmpty emptyAgree firstImpossible possibleAt possible run after taken added inputs outputs placesOf members membersFrom keep allDue lowered raised allZero fits takesBinding takesPut withBinding withPut gained sideSays misplaced listed insert grows putMasks putLengths total freshNet orderly sized endsOk sidesOk blockOk allBelow ascendsAbove zeros followSays followGives traceWithinLimits followPositions followedFrom single checkSays lowestMember lost outside successors predecessors inNet onSides reach rounds oneRound unionFrom rows rowsFrom arcs arc names named those thoseBelow withIf sumBelow number anyBelow union member bit containedSays contained sidesWithin allListed calls more others fig4 grown answers
 nets = (refl, refl, refl, refl)
 
 -- ---- a list in which a side is full
@@ -97,5 +97,5 @@ busy =
 full :
     (answers (freshNet 0 31) busy ≡ map learnMeans (replicate 16 (Learned 4) ++ (Refused 12 0 ∷ Refused 3 0 ∷ Refused 3 0 ∷ Refused 4 2 ∷ Refused 9 1 ∷ Refused 11 0 ∷ Learned 0 ∷ [])))
     × (setsOn (grown (freshNet 0 31) busy) Output 0 ≡ 2 ∷ 4 ∷ 8 ∷ 16 ∷ 32 ∷ 64 ∷ 128 ∷ 256 ∷ 512 ∷ 1024 ∷ 2048 ∷ 4096 ∷ 8192 ∷ 16384 ∷ 32768 ∷ 65536 ∷ [])
-unfolding learnSays learnGives withinLimits wordsWithin bindings firstNoActivity firstFailing firstFrom learnPositions shaped endsAgree firstWronglyEmpty emptyAgree firstImpossible possibleAt possible run after taken added inputs outputs places members membersFrom keep allDue lowered raised allZero fits takesBinding takesPut withBinding withPut gained sideSays misplaced listed insert grows putMasks putLengths total freshNet orderly sized endsOk sidesOk blockOk allBelow ascendsAbove zeros followSays followGives traceWithinLimits followPositions followedFrom single through busy grown answers
+unfolding learnSays learnGives withinLimits wordsWithin bindings firstNoActivity firstFailing firstFrom learnPositions shaped endsAgree firstWronglyEmpty emptyAgree firstImpossible possibleAt possible run after taken added inputs outputs placesOf members membersFrom keep allDue lowered raised allZero fits takesBinding takesPut withBinding withPut gained sideSays misplaced listed insert grows putMasks putLengths total freshNet orderly sized endsOk sidesOk blockOk allBelow ascendsAbove zeros followSays followGives traceWithinLimits followPositions followedFrom single through busy grown answers
 full = (refl, refl)

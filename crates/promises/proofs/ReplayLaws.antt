@@ -17,7 +17,7 @@ use Rattle.search.specs.Search.{trialsOf}
 use Rattle.search.specs.Replay.{replayed}
 use Rattle.search.specs.Statements.{NoChoice}
 use Rattle.search.proofs.Theorems.{replay-as-listed, none-said, found-said}
-use Rattle.promises.specs.Replays.{SaysFound, SaysNone, NotRefused, EndsWithin}
+use Rattle.promises.specs.Replays.{SaysFound, SaysNone, ReplayNotRefused, EndsWithin}
 use Rattle.promises.proofs.WithinLaws.{valid-grows}
 
 module _ (net other : Net) (o : Orderly net) (c : Contained net other) where
@@ -34,7 +34,7 @@ module _ (net other : Net) (o : Orderly net) (c : Contained net other) where
       let w = found-said net trace budget (length out) (f .0) .0 (f .1) .3 in
       none-said other trace budget′ (length out′) (n .0) .0 (n .1) .3 (w .0) (choice-grows trace (w .0) (w .1)) (valid-grows net other (w .0) c (w .2))
 
-pub none-exactly : (net : Net) (trace : List ℕ) (budget : ℕ) (out : List ℕ) → NotRefused net trace budget out
+pub none-exactly : (net : Net) (trace : List ℕ) (budget : ℕ) (out : List ℕ) → ReplayNotRefused net trace budget out
     → SaysNone net trace budget out ↔ (EndsWithin net trace budget × NoChoice net trace)
 none-exactly net trace budget out h =
     let none = replay-as-listed net trace budget (length out) .accepted-exactly .0 h in (

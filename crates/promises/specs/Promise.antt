@@ -22,7 +22,7 @@ use Rattle.sequences.specs.Learn.{learnMeans}
 use Rattle.sequences.specs.declared.LearnAnswer.the-variants.{Learned, Refused}
 use Rattle.search.specs.Statements.{NoChoice}
 use Rattle.promises.specs.Calls.{Call, sequenceOf, refusals, says, gives, grown, answers, AllWords}
-use Rattle.promises.specs.Replays.{SaysFound, SaysNone, NotRefused, EndsWithin}
+use Rattle.promises.specs.Replays.{SaysFound, SaysNone, ReplayNotRefused, EndsWithin}
 
 -- one call, given the net so far: it is refused exactly as the papers list it, and else accepted, with the growth of the net's own
 -- lists as the number of new sets; an accepted call returns the net with exactly its sequence's sets more, and a refused one the
@@ -62,7 +62,7 @@ pub record Promise (first : Net) (calls : List Call) : Type 0 where
   -- 5. in every net, whatever the trace, the budget and the buffer are, a replay that isn't refused says none exactly when its
   -- search ends within the budget and no choice of the net's bindings makes the trace valid. (In a net that doesn't pass it is
   -- refused.)
-  pub none-exactly : (net : Net) (trace : List ℕ) (budget : ℕ) (out : List ℕ) → NotRefused net trace budget out
+  pub none-exactly : (net : Net) (trace : List ℕ) (budget : ℕ) (out : List ℕ) → ReplayNotRefused net trace budget out
       → SaysNone net trace budget out ↔ (EndsWithin net trace budget × NoChoice net trace)
 
 -- demand 3: for every start and end that fresh accepts and every list of calls, starting from the net that fresh returns

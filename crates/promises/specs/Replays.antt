@@ -15,8 +15,8 @@ SaysFound net trace budget out = (n : ℕ) × (replaySays net trace budget (leng
 abbrev pub SaysNone : Net → List ℕ → ℕ → List ℕ → Type 0
 SaysNone net trace budget out = (n : ℕ) × (replaySays net trace budget (length out) ≡ replayMeans (None n))
 
-abbrev pub NotRefused : Net → List ℕ → ℕ → List ℕ → Type 0
-NotRefused net trace budget out = (number place : ℕ) → replaySays net trace budget (length out) ≡ replayMeans (Refused number place) → ⊥
+abbrev pub ReplayNotRefused : Net → List ℕ → ℕ → List ℕ → Type 0
+ReplayNotRefused net trace budget out = (number place : ℕ) → replaySays net trace budget (length out) ≡ replayMeans (Refused number place) → ⊥
 
 -- the search without a budget counts no more trials than this
 abbrev pub EndsWithin : Net → List ℕ → ℕ → Type 0

@@ -11,19 +11,19 @@ use lib.ListN.{length, take, drop}
 use lib.Seq.{take-append-seam}
 use Rattle.obligations.specs.Limits.{positions}
 use Rattle.obligations.proofs.ListLaws.{member-at}
-use Rattle.logfile.specs.LogFile.{Reading, row, end, fault, RowSays, rowMeans, readingSays, readRow}
+use Rattle.logfile.specs.LogFile.{RowReading, row, end, fault, RowSays, rowMeans, readingSays, readRow}
 use Rattle.logfile.specs.declared.RowAnswer.{RowAnswer}
 use Rattle.logfile.specs.declared.RowAnswer.the-variants.{Row, End, Refused}
 use Rattle.logfile.proofs.RowAnswer as row-answer
 use Rattle.logfile.proofs.Theorems.{row-is-trace}
 use Rattle.search.specs.Trace.{TraceWithRoom}
 
-pub given-row : (x : Reading) (s n : ℕ) → rowMeans (Row s n) ≡ readingSays x → (t : List ℕ) × (x ≡ row s t) × (length t ≡ n)
+pub given-row : (x : RowReading) (s n : ℕ) → rowMeans (Row s n) ≡ readingSays x → (t : List ℕ) × (x ≡ row s t) × (length t ≡ n)
 given-row (row a t) s n e = (t, ap (λ (k : ℕ). row k t) (sym (ap (λ (r : RowSays). r .sessions) e)), sym (ap (λ (r : RowSays). r .entries) e))
 given-row end s n e = let z : _≡_ {A = ℕ} 1 0 = ap (λ (r : RowSays). r .says .value) e in absurd (omega arith)
 given-row (fault a b) s n e = let z : _≡_ {A = ℕ} 1 0 = ap (λ (r : RowSays). r .says .value) e in absurd (omega arith)
 
-pub no-row : (a : RowAnswer) (x : Reading) → rowMeans a ≡ readingSays x → ((s n : ℕ) → a ≡ Row s n → ⊥) → (s : ℕ) (t : List ℕ) → x ≡ row s t → ⊥
+pub no-row : (a : RowAnswer) (x : RowReading) → rowMeans a ≡ readingSays x → ((s n : ℕ) → a ≡ Row s n → ⊥) → (s : ℕ) (t : List ℕ) → x ≡ row s t → ⊥
 no-row (Row s n) x e h a t q = h s n refl
 no-row End x e h a t q = let z : _≡_ {A = ℕ} 0 1 = ap (λ (r : RowSays). r .says .value) (e ∙ ap readingSays q) in omega arith
 no-row (Refused n p) x e h a t q = let z : _≡_ {A = ℕ} 0 1 = ap (λ (r : RowSays). r .says .value) (e ∙ ap readingSays q) in omega arith

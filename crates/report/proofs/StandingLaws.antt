@@ -6,7 +6,7 @@ use native.Mathlib.Omega.{arith}
 use lib.ListN.{length, drop, length-append, length-drop}
 use Rattle.obligations.specs.Limits.{positions}
 use Rattle.logfile.specs.Limits.{logRows}
-use Rattle.logfile.specs.LogFile.{Reading, row, rowMeans, readingSays, readingLeaves, readRow}
+use Rattle.logfile.specs.LogFile.{RowReading, row, rowMeans, readingSays, readingLeaves, readRow}
 use Rattle.logfile.specs.Cursor.{start, readNext, cursorAfter, NextRead, Reached, at-start, one-more}
 use Rattle.logfile.specs.declared.Cursor.{Cursor}
 use Rattle.logfile.specs.declared.NextRow.{NextRow}
@@ -48,7 +48,7 @@ module _ (log : List ℕ) (r : ℕ) (c : Cursor) (trace : List ℕ) (z : Standin
           entries = g .0;
           is-row = g .1;
           as-long = g .2;
-          in-front = w .reads .leaves ∙ ap (λ (y : Reading). readingLeaves y trace) (standing-reads ∙ g .1);
+          in-front = w .reads .leaves ∙ ap (λ (y : RowReading). readingLeaves y trace) (standing-reads ∙ g .1);
         }
 
     pub standing-none : ((s n : ℕ) → x .answer ≡ Row s n → ⊥) → (s : ℕ) (t : List ℕ) → readRow log r positions ≡ row s t → ⊥

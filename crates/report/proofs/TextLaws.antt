@@ -11,13 +11,13 @@ use Rattle.text.specs.Fields.{comma}
 use Rattle.text.specs.Decimal.{printNumber}
 use Rattle.net.specs.declared.Net.{Net}
 use Rattle.logfile.specs.Limits.{logRows, mostSessions}
-use Rattle.logfile.specs.LogFile.{Reading, row, end, fault, readRow}
+use Rattle.logfile.specs.LogFile.{RowReading, row, end, fault, readRow}
 use Rattle.logfile.proofs.Theorems.{row-is-trace, later-same}
 use Rattle.search.specs.Search.{found}
 use Rattle.search.proofs.ReplayLaws.{said-within}
-use Rattle.search.specs.Replay.{ReplaySays, says-found, says-none, says-spent, says-refused, within, checkedSays}
+use Rattle.search.specs.Replay.{ReplaySays, says-found, says-none, says-spent, says-refused, withinBudget, checkedSays}
 use Rattle.text.proofs.DigitLaws.{number-below, number-within}
-use Rattle.report.specs.Report.{rowBudget, refusedWord, answerWord, answerTrials, refusalText, rowText, readingText, rowsText}
+use Rattle.report.specs.Report.{rowBudget, refusedWord, answerWord, answerTrials, refusalText, reportLine, readingText, rowsText}
 
 -- ---- the last piece of a line
 
@@ -44,11 +44,11 @@ module _ (file : List ℕ) (n line : ℕ) where
 -- ---- the line of a row
 
 module _ (r s : ℕ) (a : ReplaySays) where
-  pub row-bytes : rowText r s a ≡ ((printNumber r ++ (comma ∷ [])) ++ printNumber s) ++ (((comma ∷ (answerWord a ++ (comma ∷ []))) ++ printNumber (answerTrials a)) ++ (cr ∷ lf ∷ []))
-  unfolding rowText
+  pub row-bytes : reportLine r s a ≡ ((printNumber r ++ (comma ∷ [])) ++ printNumber s) ++ (((comma ∷ (answerWord a ++ (comma ∷ []))) ++ printNumber (answerTrials a)) ++ (cr ∷ lf ∷ []))
+  unfolding reportLine
   row-bytes = simp (append-assoc, append-nil)
 
-  pub row-width : length (rowText r s a) ≡ length (printNumber r) + 1 + length (printNumber s) + (2 + length (answerWord a) + length (printNumber (answerTrials a)) + 2)
+  pub row-width : length (reportLine r s a) ≡ length (printNumber r) + 1 + length (printNumber s) + (2 + length (answerWord a) + length (printNumber (answerTrials a)) + 2)
   row-width = rw row-bytes (simp length-append (omega arith))
 
   word-short : length (answerWord a) ≤ 5
@@ -60,7 +60,7 @@ module _ (r s : ℕ) (a : ReplaySays) where
       go (says-spent n) = omega arith
       go (says-refused n p) = omega arith
 
-  row-short : r ≤ logRows → s ≤ mostSessions → answerTrials a ≤ rowBudget → length (rowText r s a) ≤ 28
+  row-short : r ≤ logRows → s ≤ mostSessions → answerTrials a ≤ rowBudget → length (reportLine r s a) ≤ 28
   row-short h k l = omega (arith, row-width, word-short, number-below 3 r (omega arith), number-below 6 s (omega arith), number-below 6 (answerTrials a) (omega arith))
 
 -- a replay says no more trials than its budget
@@ -78,7 +78,7 @@ module _ (net : Net) (log : List ℕ) where
   unfolding rowsText
   rows-done r h = let e : logRows + 1 - r ≡ 0 = omega arith in rw e refl
 
-  reading-none : (r : ℕ) (x : Reading) → ((s : ℕ) (t : List ℕ) → x ≡ row s t → ⊥) → readingText net r x ≡ []
+  reading-none : (r : ℕ) (x : RowReading) → ((s : ℕ) (t : List ℕ) → x ≡ row s t → ⊥) → readingText net r x ≡ []
   reading-none r (row s t) h = absurd (h s t refl)
   reading-none r end h = refl
   reading-none r (fault n p) h = refl
@@ -94,7 +94,7 @@ module _ (net : Net) (log : List ℕ) where
   reading-short : (r : ℕ) → length (readingText net r (readRow log r positions)) ≤ 28
   reading-short r = go (readRow log r positions) refl
     where
-      go : (x : Reading) → readRow log r positions ≡ x → length (readingText net r x) ≤ 28
+      go : (x : RowReading) → readRow log r positions ≡ x → length (readingText net r x) ≤ 28
       go (row s t) e = let g = row-is-trace log r positions s t e in row-short r s (checkedSays net t rowBudget) (g .few-rows) (g .few-sessions) (trials-most net t rowBudget)
       go end e = omega arith
       go (fault n p) e = omega arith

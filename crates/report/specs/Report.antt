@@ -14,7 +14,7 @@ use Rattle.net.specs.declared.Net.{Net}
 use Rattle.walks.specs.Check.{checkSays}
 use Rattle.netfile.specs.NetFile.{readNet}
 use Rattle.logfile.specs.Limits.{logRows}
-use Rattle.logfile.specs.LogFile.{Reading, row, end, fault, readRow, readingSays}
+use Rattle.logfile.specs.LogFile.{RowReading, row, end, fault, readRow, readingSays}
 use Rattle.search.specs.Replay.{ReplaySays, says-found, says-none, says-spent, says-refused, checkedSays}
 
 -- each of the two files has at most this many bytes
@@ -68,12 +68,12 @@ unfoldable pub refusalText : List ℕ → ℕ → ℕ → List ℕ
 refusalText file n line = unlines (join comma (refusedWord ∷ file ∷ printNumber n ∷ printNumber line ∷ []) ∷ [])
 
 -- the line of row r, which has s sessions and whose replay says a
-unfoldable pub rowText : ℕ → ℕ → ReplaySays → List ℕ
-rowText r s a = unlines (join comma (printNumber r ∷ printNumber s ∷ answerWord a ∷ printNumber (answerTrials a) ∷ []) ∷ [])
+unfoldable pub reportLine : ℕ → ℕ → ReplaySays → List ℕ
+reportLine r s a = unlines (join comma (printNumber r ∷ printNumber s ∷ answerWord a ∷ printNumber (answerTrials a) ∷ []) ∷ [])
 
 -- the line of what was read as row r: there is one if it is a row
-abbrev pub readingText : Net → ℕ → Reading → List ℕ
-readingText net r (row s t) = rowText r s (checkedSays net t rowBudget)
+abbrev pub readingText : Net → ℕ → RowReading → List ℕ
+readingText net r (row s t) = reportLine r s (checkedSays net t rowBudget)
 readingText net r end = []
 readingText net r (fault n p) = []
 

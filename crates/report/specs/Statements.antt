@@ -10,10 +10,10 @@ use Rattle.walks.specs.Check.{checkMeans, checkSays}
 use Rattle.walks.specs.declared.CheckAnswer.the-variants.{Passed}
 use Rattle.logfile.specs.LogFile.{row, readRow}
 use Rattle.search.specs.Replay.{replaySays}
-use Rattle.report.specs.Report.{rowBudget, rowText, readingText}
+use Rattle.report.specs.Report.{rowBudget, reportLine, readingText}
 
 -- in a net that passed the check, with any buffer that has room for every trace
 abbrev pub RowIsReplay : Type 0
 RowIsReplay =
     (net : Net) (arcs : ℕ) (log : List ℕ) (r s : ℕ) (t out : List ℕ) → checkSays net ≡ checkMeans (Passed arcs) → readRow log r positions ≡ row s t → 3 * positions ≤ length out
-    → readingText net r (readRow log r positions) ≡ rowText r s (replaySays net t rowBudget (length out))
+    → readingText net r (readRow log r positions) ≡ reportLine r s (replaySays net t rowBudget (length out))

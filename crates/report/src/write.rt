@@ -11,7 +11,7 @@ ghost use Rattle.text.specs.Inner.{Wrote};
 ghost use Rattle.text.specs.Decimal.{printNumber};
 ghost use Rattle.text.specs.Lines.{cr, lf};
 ghost use Rattle.search.specs.Replay.{replayMeans};
-ghost use Rattle.report.specs.Report.{refusalText, rowText};
+ghost use Rattle.report.specs.Report.{refusalText, reportLine};
 
 // Writes the line of a refusal at the buffer's front, for a file's word.
 pub fn write_refusal(out: &mut [u8], file: &[u8], number: u32, line: u32) -> usize
@@ -27,8 +27,8 @@ pub fn write_refusal(out: &mut [u8], file: &[u8], number: u32, line: u32) -> usi
 
 // Writes the line of row `row`, which has these sessions and whose replay gave this answer.
 pub fn write_row(out: &mut [u8], at: usize, row: u32, sessions: u32, answer: ReplayAnswer) -> usize
-    requires { ⌜ at + length (rowText row sessions (replayMeans answer)) ≤ length (now out) ⌝ }
-    ensures { λ r. ⌜ Wrote (now (out .entry)) at (rowText row sessions (replayMeans answer)) (now (out .exit)) r ⌝ }
+    requires { ⌜ at + length (reportLine row sessions (replayMeans answer)) ≤ length (now out) ⌝ }
+    ensures { λ r. ⌜ Wrote (now (out .entry)) at (reportLine row sessions (replayMeans answer)) (now (out .exit)) r ⌝ }
 {
     let mut p = write_number(out, at, row as u64);
     p = write_bytes(out, p, b",");

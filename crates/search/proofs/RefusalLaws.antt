@@ -21,7 +21,7 @@ use Rattle.net.proofs.ChainLaws.{unless-passes, none-passes}
 use Rattle.walks.proofs.CheckLaws.{none-lost-passes, passes-none-lost, walks-link, walks-pass}
 use Rattle.search.specs.Search.{Result, found, failed, trialsOf}
 use Rattle.search.specs.Trace.{hasRoom}
-use Rattle.search.specs.Replay.{says-refused, says-spent, endSays, within, replayed, checkedSays, OutsideLimits, replayRefusals, replayTests, replaySays}
+use Rattle.search.specs.Replay.{says-refused, says-spent, endSays, withinBudget, replayed, checkedSays, ReplayOutsideLimits, replayRefusals, replayTests, replaySays}
 use Rattle.search.specs.Statements.{Replayable}
 use Rattle.search.proofs.TraceLaws.{room-facts, facts-room, room-none, room-some}
 use Rattle.search.proofs.ReplayLaws.{tests-pass}
@@ -31,8 +31,8 @@ use Rattle.search.proofs.ReplayLaws.{tests-pass}
 pub refusals-same : (n m p q : ℕ) → says-refused n p ≡ says-refused m q → (n ≡ m) × (p ≡ q)
 refusals-same n m p q e = (cc, cc)
 
-within-unrefused : (budget : ℕ) (r : Result) (n p : ℕ) → within budget r ≡ says-refused n p → ⊥
-unfolding within endSays
+within-unrefused : (budget : ℕ) (r : Result) (n p : ℕ) → withinBudget budget r ≡ says-refused n p → ⊥
+unfolding withinBudget endSays
 within-unrefused budget r n p e = go (leb (trialsOf r) budget) r e
   where
     go : (t : Bool) (r : Result) → cond t (endSays r) (says-spent budget) ≡ says-refused n p → ⊥
@@ -47,7 +47,7 @@ module _ (net : Net) (trace : List ℕ) (room : ℕ) where
   unfolding replayTests
   tests-told =
       orderly-link refused (accepted 0) _ _ net
-      (λ o. whole-link refused (accepted 0) outside-limits (OutsideLimits trace room) _ (hasRoom (length trace) room) _ (room-none trace room) (room-some trace room)
+      (λ o. whole-link refused (accepted 0) outside-limits (ReplayOutsideLimits trace room) _ (hasRoom (length trace) room) _ (room-none trace room) (room-some trace room)
       (λ h. activities-link refused (accepted 0) _ _ (length trace) (activityIn trace)
       (λ a. walks-link net o refused (accepted 0) [] _ (λ e. told-end refused (accepted 0)))))
 

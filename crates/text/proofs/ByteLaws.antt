@@ -15,7 +15,7 @@ use lib.ListN.{length, getD, take, drop}
 use lib.Seq.{slice, slice-cons, slice-empty, drop-cons, drop-length, take-nil, take-take}
 use Rattle.obligations.specs.Tests.{indicator}
 use Rattle.obligations.proofs.BoolLaws.{and-left, and-right}
-use Rattle.text.specs.Bytes.{before, count, sameBytes}
+use Rattle.text.specs.Bytes.{bytesBefore, occurrences, sameBytes}
 use Rattle.text.specs.Decimal.{isEmpty}
 
 -- ---- one byte of a part, and one of the rest
@@ -38,20 +38,20 @@ slice-take s at n e h = take-drop n at (take e s) ∙ ap (drop at) (take-take (a
 
 -- ---- finding a byte
 
-pub before-here : (s : List ℕ) (k e c : ℕ) → k < e → e ≤ length s → getD s k 0 ≡ c → before c (slice k e s) ≡ 0
+pub before-here : (s : List ℕ) (k e c : ℕ) → k < e → e ≤ length s → getD s k 0 ≡ c → bytesBefore c (slice k e s) ≡ 0
 before-here s k e c h t q = rw (slice-step s k e h t, eq-eqb (getD s k 0) c q)
 
-pub before-more : (s : List ℕ) (k e c : ℕ) → k < e → e ≤ length s → (getD s k 0 ≡ c → ⊥) → before c (slice k e s) ≡ suc (before c (slice (k + 1) e s))
+pub before-more : (s : List ℕ) (k e c : ℕ) → k < e → e ≤ length s → (getD s k 0 ≡ c → ⊥) → bytesBefore c (slice k e s) ≡ suc (bytesBefore c (slice (k + 1) e s))
 before-more s k e c h t q = rw (slice-step s k e h t, ne-eqb (getD s k 0) c q)
 
-pub before-end : (s : List ℕ) (k e c : ℕ) → k ≤ e → e ≤ k → before c (slice k e s) ≡ 0
+pub before-end : (s : List ℕ) (k e c : ℕ) → k ≤ e → e ≤ k → bytesBefore c (slice k e s) ≡ 0
 before-end s k e c h t = let q : k ≡ e = omega arith in rw (q, slice-empty e s)
 
-pub before-le : (c : ℕ) (s : List ℕ) → before c s ≤ length s
+pub before-le : (c : ℕ) (s : List ℕ) → bytesBefore c s ≤ length s
 before-le c [] = omega arith
 before-le c (b ∷ s) = go (eqb b c) (before-le c s)
   where
-    go : (t : Bool) → before c s ≤ length s → cond t 0 (suc (before c s)) ≤ suc (length s)
+    go : (t : Bool) → bytesBefore c s ≤ length s → cond t 0 (suc (bytesBefore c s)) ≤ suc (length s)
     go true h = omega arith
     go false h = omega arith
 
@@ -66,26 +66,26 @@ pub indicator-le : (t : Bool) → indicator t ≤ 1
 indicator-le true = omega arith
 indicator-le false = omega arith
 
-pub count-step : (s : List ℕ) (k e c : ℕ) → k < e → e ≤ length s → count c (slice k e s) ≡ indicator (eqb (getD s k 0) c) + count c (slice (k + 1) e s)
-count-step s k e c h t = rw (slice-step s k e h t)
+pub occurrences-step : (s : List ℕ) (k e c : ℕ) → k < e → e ≤ length s → occurrences c (slice k e s) ≡ indicator (eqb (getD s k 0) c) + occurrences c (slice (k + 1) e s)
+occurrences-step s k e c h t = rw (slice-step s k e h t)
 
-pub count-end : (s : List ℕ) (k e c : ℕ) → k ≤ e → e ≤ k → count c (slice k e s) ≡ 0
-count-end s k e c h t = let q : k ≡ e = omega arith in rw (q, slice-empty e s)
+pub occurrences-end : (s : List ℕ) (k e c : ℕ) → k ≤ e → e ≤ k → occurrences c (slice k e s) ≡ 0
+occurrences-end s k e c h t = let q : k ≡ e = omega arith in rw (q, slice-empty e s)
 
-pub count-append : (c : ℕ) (s t : List ℕ) → count c (s ++ t) ≡ count c s + count c t
-count-append c [] t = sym (zero-add (count c t))
-count-append c (b ∷ s) t = rw (count-append c s t) (omega arith)
+pub occurrences-append : (c : ℕ) (s t : List ℕ) → occurrences c (s ++ t) ≡ occurrences c s + occurrences c t
+occurrences-append c [] t = sym (zero-add (occurrences c t))
+occurrences-append c (b ∷ s) t = rw (occurrences-append c s t) (omega arith)
 
 -- a byte is not c where there is no c, and there is none after it
-pub count-none-head : (c b : ℕ) (s : List ℕ) → count c (b ∷ s) ≡ 0 → eqb b c ≡ false
-count-none-head c b s h = go (eqb b c) h
+pub occurrences-none-head : (c b : ℕ) (s : List ℕ) → occurrences c (b ∷ s) ≡ 0 → eqb b c ≡ false
+occurrences-none-head c b s h = go (eqb b c) h
   where
-    go : (t : Bool) → indicator t + count c s ≡ 0 → t ≡ false
+    go : (t : Bool) → indicator t + occurrences c s ≡ 0 → t ≡ false
     go true q = absurd (omega arith)
     go false q = refl
 
-pub count-none-tail : (c b : ℕ) (s : List ℕ) → count c (b ∷ s) ≡ 0 → count c s ≡ 0
-count-none-tail c b s h = omega arith
+pub occurrences-none-tail : (c b : ℕ) (s : List ℕ) → occurrences c (b ∷ s) ≡ 0 → occurrences c s ≡ 0
+occurrences-none-tail c b s h = omega arith
 
 -- ---- the same bytes
 

@@ -13,7 +13,7 @@ use lib.Dec.{leb, ltb, eqb}
 use lib.ListN.{length}
 use Rattle.obligations.proofs.BoolLaws.{and-left, and-right}
 use Rattle.obligations.proofs.SetLaws.{lt-or-le}
-use Rattle.text.specs.Bytes.{count}
+use Rattle.text.specs.Bytes.{occurrences}
 use Rattle.text.specs.Decimal.{isDigit, allDigits, valueFrom, value, wellLed, isNumber, parseNumber, allNumbers, values, digit, decimal, printNumber}
 use Rattle.text.specs.declared.decimal.Number.the-variants.{Value, Refused}
 use Rattle.text.proofs.DigitLaws.{value-grows, decimal-low, number-full, number-below}
@@ -113,17 +113,17 @@ digit-byte : (b : ℕ) → isDigit b ≡ true → (48 ≤ b) × (b ≤ 57)
 digit-byte b q = (leb-true 48 b (and-left (leb 48 b) (leb b 57) q), leb-true b 57 (and-right (leb 48 b) (leb b 57) q))
 
 -- digits hold no byte below 48, as CR, LF, space and comma are
-digits-free : (c : ℕ) (s : List ℕ) → c < 48 → allDigits s ≡ true → count c s ≡ 0
+digits-free : (c : ℕ) (s : List ℕ) → c < 48 → allDigits s ≡ true → occurrences c s ≡ 0
 digits-free c [] h q = refl
 digits-free c (b ∷ s) h q =
     let d = digit-byte b (and-left (isDigit b) (allDigits s) q) in
     rw (ne-eqb b c (λ e. omega arith)) (omega (arith, digits-free c s h (and-right (isDigit b) (allDigits s) q)))
 
-pub number-free : (c n : ℕ) → c < 48 → count c (printNumber n) ≡ 0
+pub number-free : (c n : ℕ) → c < 48 → occurrences c (printNumber n) ≡ 0
 unfolding printNumber
 number-free c n h = digits-free c (decimal 19 n) h (decimal-digits 19 n)
 
-pub numbers-free : (c : ℕ) → c < 48 → (ks : List ℕ) (q : List ℕ) → List·Memᴰ q (map printNumber ks) → count c q ≡ 0
+pub numbers-free : (c : ℕ) → c < 48 → (ks : List ℕ) (q : List ℕ) → List·Memᴰ q (map printNumber ks) → occurrences c q ≡ 0
 numbers-free c h [] q m = absurd (List·Memᴰ·not-nil m)
 numbers-free c h (k ∷ ks) q m = ⊎-elim (λ e. rw e (number-free c k h)) (λ t. numbers-free c h ks q t) (List·Memᴰ·cases-cons m)
 

@@ -10,10 +10,10 @@ use borrow.Author.Tests.{leb-true, leb-false}
 use lib.Dec.{eqb, leb}
 use lib.ListN.{length, getD, take, drop, length-drop, drop-of-length-le}
 use lib.Seq.{slice, drop-drop, drop-cons}
-use Rattle.text.specs.Bytes.{count}
+use Rattle.text.specs.Bytes.{occurrences}
 use Rattle.text.specs.Lines.{cr, lf, startsCrLf, lines, unlines, HasLine, lineAt}
 use Rattle.text.specs.Inner.{lineLength, lineEnd, nextLine}
-use Rattle.text.proofs.ByteLaws.{drop-step, take-drop, count-none-head, count-none-tail}
+use Rattle.text.proofs.ByteLaws.{drop-step, take-drop, occurrences-none-head, occurrences-none-tail}
 
 -- ---- CR LF
 
@@ -80,17 +80,17 @@ lines-end s i h = rw (drop-of-length-le s h)
 -- ---- lines that were written
 
 -- a line without a CR, ended by CR LF, and the lines of what follows
-pub line-first : (l t : List ℕ) → count cr l ≡ 0 → lines (l ++ (cr ∷ lf ∷ t)) ≡ l ∷ lines t
+pub line-first : (l t : List ℕ) → occurrences cr l ≡ 0 → lines (l ++ (cr ∷ lf ∷ t)) ≡ l ∷ lines t
 line-first [] t h = refl
-line-first (b ∷ []) t h = rw (count-none-head cr b [] h)
-line-first (b ∷ d ∷ l) t h = rw (count-none-head cr b (d ∷ l) h, line-first (d ∷ l) t (count-none-tail cr b (d ∷ l) h))
+line-first (b ∷ []) t h = rw (occurrences-none-head cr b [] h)
+line-first (b ∷ d ∷ l) t h = rw (occurrences-none-head cr b (d ∷ l) h, line-first (d ∷ l) t (occurrences-none-tail cr b (d ∷ l) h))
 
 pub unlines-append : (ks ls : List (List ℕ)) → unlines (ks ++ ls) ≡ unlines ks ++ unlines ls
 unlines-append [] ls = refl
 unlines-append (k ∷ ks) ls = rw (unlines-append ks ls) (sym (append-assoc k (cr ∷ lf ∷ unlines ks) (unlines ls)))
 
 -- the lines of a text that was written line by line are the lines that were written
-pub lines-unlines : (ls : List (List ℕ)) → ((l : List ℕ) → List·Memᴰ l ls → count cr l ≡ 0) → lines (unlines ls) ≡ ls
+pub lines-unlines : (ls : List (List ℕ)) → ((l : List ℕ) → List·Memᴰ l ls → occurrences cr l ≡ 0) → lines (unlines ls) ≡ ls
 lines-unlines [] h = refl
 lines-unlines (l ∷ ls) h = line-first l (unlines ls) (h l (List·Memᴰ·head refl)) ∙ ap (λ (r : List (List ℕ)). l ∷ r) (lines-unlines ls (λ k m. h k (List·Memᴰ·tail m)))
 

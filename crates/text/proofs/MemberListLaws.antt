@@ -17,7 +17,7 @@ use Rattle.obligations.specs.Sets.{member, single, union, members}
 use Rattle.obligations.proofs.BoolLaws.{false-not-true, and-left, and-right, same-test}
 use Rattle.obligations.proofs.SetLaws.{single-lt, union-lt, member-none, member-with, set-ext}
 use Rattle.obligations.proofs.MemberLaws.{members-walk, members-are, members-induct}
-use Rattle.text.specs.Bytes.{before, count}
+use Rattle.text.specs.Bytes.{bytesBefore, occurrences}
 use Rattle.text.specs.Fields.{space, split, led, join}
 use Rattle.text.specs.Decimal.{isEmpty, value, isNumber, parseNumber, allNumbers, values, printNumber}
 use Rattle.text.specs.Members.{highest, ascendsFrom, withAll, areMembers, parseMembers, printMembers}
@@ -52,7 +52,7 @@ unfolding parseMembers areMembers
 members-start s = sym (fields-all 0 0 (split space s))
 
 -- what the first member of a list decides, where the list is s[at..e] and the member ends at j
-module _ (s : List ℕ) (at e j low m : ℕ) (h : at ≤ e) (t : e ≤ length s) (q : j ≡ at + before space (slice at e s)) where
+module _ (s : List ℕ) (at e j low m : ℕ) (h : at ≤ e) (t : e ≤ length s) (q : j ≡ at + bytesBefore space (slice at e s)) where
   pub list-refused : parseNumber highest (slice at j s) ≡ number.Refused → readFields low m (split space (slice at e s)) ≡ Refused
   list-refused r = rw (part-head space s at e j h t q, number-refused highest (slice at j s) r)
 
@@ -131,7 +131,7 @@ all-members m h = set-ext (withAll 0 (members m)) m (all-lt 0 (members m) (omega
     back k l t = member-all 0 (members m) k (member-below m) (inr (members-are m k .1 (l, t)))
 
 -- printed members, joined by a space, hold no byte below 48 but that
-pub members-free : (c m : ℕ) → c < 48 → (c ≡ space → ⊥) → count c (printMembers m) ≡ 0
+pub members-free : (c m : ℕ) → c < 48 → (c ≡ space → ⊥) → occurrences c (printMembers m) ≡ 0
 unfolding printMembers
 members-free c m h n = join-free c space n (map printNumber (members m)) (numbers-free c h (members m))
 
@@ -164,7 +164,7 @@ pub parse-members-mask : (s : List ℕ) (m : ℕ) → parseMembers s ≡ Set m �
 unfolding areMembers
 parse-members-mask s m q = let v = list-value s m q in go (split space s) (length-split space s) (v .0) (v .1)
   where
-    go : (fs : List (List ℕ)) → length fs ≡ suc (count space s) → allNumbers highest fs && ascendsFrom 0 (values fs) ≡ true → withAll 0 (values fs) ≡ m → (0 < m) × (m < 2 ^ 32)
+    go : (fs : List (List ℕ)) → length fs ≡ suc (occurrences space s) → allNumbers highest fs && ascendsFrom 0 (values fs) ≡ true → withAll 0 (values fs) ≡ m → (0 < m) × (m < 2 ^ 32)
     go [] e a w = absurd (omega arith)
     go (f ∷ fs) e a w = (⊎-elim (λ z. absurd (false-not-true (member-none (value f)) (ap (λ (n : ℕ). member n (value f)) (sym z ∙ sym w) ∙ first))) (λ h. h) (zero-or-some m), rw (← w) (all-lt 0 (values (f ∷ fs)) (omega arith)))
       where

@@ -6,14 +6,14 @@ use lib.Dec.{eqb}
 use Rattle.obligations.specs.Tests.{indicator}
 
 -- how many bytes stand before the first c, or before the end
-abbrev pub before : ℕ → List ℕ → ℕ
-before c [] = 0
-before c (b ∷ s) = cond (eqb b c) 0 (suc (before c s))
+abbrev pub bytesBefore : ℕ → List ℕ → ℕ
+bytesBefore c [] = 0
+bytesBefore c (b ∷ s) = cond (eqb b c) 0 (suc (bytesBefore c s))
 
 -- how many bytes are c
-abbrev pub count : ℕ → List ℕ → ℕ
-count c [] = 0
-count c (b ∷ s) = indicator (eqb b c) + count c s
+abbrev pub occurrences : ℕ → List ℕ → ℕ
+occurrences c [] = 0
+occurrences c (b ∷ s) = indicator (eqb b c) + occurrences c s
 
 -- whether two byte strings are the same
 abbrev pub sameBytes : List ℕ → List ℕ → Bool

@@ -5,14 +5,14 @@ use mathlib.Core.Bool.{cond}
 use mathlib.Core.List.{List, [], _∷_}
 use lib.ListN.{length, drop}
 use lib.Seq.{slice, sets}
-use Rattle.text.specs.Bytes.{before}
+use Rattle.text.specs.Bytes.{bytesBefore}
 use Rattle.text.specs.Lines.{startsCrLf}
 
 -- r is where the first c stands in s[i..e], or e if it stands nowhere there
 pub record FoundAt (s : List ℕ) (i e c r : ℕ) : Type 0 where
   pub low : i ≤ r
   pub high : r ≤ e
-  pub exact : r ≡ i + before c (slice i e s)
+  pub exact : r ≡ i + bytesBefore c (slice i e s)
 
 -- a text was written into the buffer from `at` on, and nothing else: r is the index after it
 pub record Wrote (buf₀ : List ℕ) (at : ℕ) (text buf : List ℕ) (r : ℕ) : Type 0 where

@@ -6,7 +6,7 @@ use mathlib.Core.Logic.{_↔_}
 use mathlib.Core.List.{List, _∷_, List·Memᴰ}
 use lib.ListN.{length}
 use Rattle.obligations.specs.Limits.{masks}
-use Rattle.text.specs.Bytes.{count}
+use Rattle.text.specs.Bytes.{occurrences}
 use Rattle.text.specs.Lines.{cr, lines, unlines}
 use Rattle.text.specs.Fields.{split, join}
 use Rattle.text.specs.Decimal.{parseNumber, printNumber}
@@ -25,11 +25,11 @@ MembersRead = (s : List ℕ) (m : ℕ) → (parseMembers s ≡ Set m) ↔ ((s �
 
 -- lines that hold no CR are read as they were written
 abbrev pub LinesBack : Type 0
-LinesBack = (ls : List (List ℕ)) → ((l : List ℕ) → List·Memᴰ l ls → count cr l ≡ 0) → lines (unlines ls) ≡ ls
+LinesBack = (ls : List (List ℕ)) → ((l : List ℕ) → List·Memᴰ l ls → occurrences cr l ≡ 0) → lines (unlines ls) ≡ ls
 
 -- fields that hold no separator, at least one of them, are split as they were joined
 abbrev pub FieldsBack : Type 0
-FieldsBack = (c : ℕ) (p : List ℕ) (ps : List (List ℕ)) → ((q : List ℕ) → List·Memᴰ q (p ∷ ps) → count c q ≡ 0) → split c (join c (p ∷ ps)) ≡ p ∷ ps
+FieldsBack = (c : ℕ) (p : List ℕ) (ps : List (List ℕ)) → ((q : List ℕ) → List·Memᴰ q (p ∷ ps) → occurrences c q ≡ 0) → split c (join c (p ∷ ps)) ≡ p ∷ ps
 
 -- the fields of a line, joined again, are the line
 abbrev pub FieldsJoined : Type 0
@@ -37,4 +37,4 @@ FieldsJoined = (c : ℕ) (s : List ℕ) → join c (split c s) ≡ s
 
 -- a line has one field more than separators
 abbrev pub OneMoreField : Type 0
-OneMoreField = (c : ℕ) (s : List ℕ) → length (split c s) ≡ suc (count c s)
+OneMoreField = (c : ℕ) (s : List ℕ) → length (split c s) ≡ suc (occurrences c s)

@@ -4,7 +4,7 @@ ghost use mathlib.Core.Path.{_≡_};
 ghost use Prim.Native.Nat.{_+_, _≤_};
 ghost use lib.ListN.{length};
 ghost use lib.Seq.{slice};
-ghost use Rattle.text.specs.Bytes.{count, sameBytes};
+ghost use Rattle.text.specs.Bytes.{occurrences, sameBytes};
 ghost use Rattle.text.specs.Inner.{FoundAt, Wrote};
 
 // Where the first c stands in s[i..e], or e.
@@ -25,7 +25,7 @@ pub fn find_byte(s: &[u8], i: usize, e: usize, c: u8) -> usize
 // How often c stands in s[i..e]. No way out of the loop, so that it is compiled to vector operations.
 pub fn count_byte(s: &[u8], i: usize, e: usize, c: u8) -> usize
     requires { ⌜ (i ≤ e) × (e ≤ length (now s)) ⌝ }
-    ensures { λ r. ⌜ r ≡ count c (slice i e (now (s .entry))) ⌝ }
+    ensures { λ r. ⌜ r ≡ occurrences c (slice i e (now (s .entry))) ⌝ }
 {
     let mut n: usize = 0;
     let mut k = i;

@@ -17,7 +17,7 @@ use Rattle.obligations.proofs.SetLaws.{member-none, member-activity, member-uni
 use Rattle.obligations.proofs.MemberLaws.{members-are, size-none, size-le}
 use Rattle.walks.specs.Arcs.{named}
 use Rattle.walks.specs.Walk.{Along, here}
-use Rattle.walks.specs.Rows.{has, Has, unionFrom, rowsAt, grown, rounds, reach}
+use Rattle.walks.specs.Rows.{has, Has, unionFrom, rowsAt, oneRound, rounds, reach}
 use Rattle.walks.proofs.BelowLaws.{size-lt}
 use Rattle.walks.proofs.AlongLaws.{along-one, along-join, along-kept}
 use Rattle.walks.proofs.RowLaws.{member-union-from}
@@ -44,17 +44,17 @@ module _ (next : List ℕ) where
   -- ---- one round
 
   module _ (seen : ℕ) where
-    pub grown-keeps : (k : ℕ) → member seen k ≡ true → member (grown next seen) k ≡ true
-    unfolding grown
-    grown-keeps k e = member-union-from seen (rowsAt next (members seen)) k ∙ or-left (named (rowsAt next (members seen)) k) e
+    pub round-keeps : (k : ℕ) → member seen k ≡ true → member (oneRound next seen) k ≡ true
+    unfolding oneRound
+    round-keeps k e = member-union-from seen (rowsAt next (members seen)) k ∙ or-left (named (rowsAt next (members seen)) k) e
 
-    pub grown-adds : seen < 2 ^ 32 → (p q : ℕ) → member seen p ≡ true → Has next p q → member (grown next seen) q ≡ true
-    unfolding grown
-    grown-adds h p q e s = member-union-from seen (rowsAt next (members seen)) q ∙ or-right (member seen q) (rows-named (members seen) p q (members-are seen p .1 (member-activity seen p h e, e)) s)
+    pub round-adds : seen < 2 ^ 32 → (p q : ℕ) → member seen p ≡ true → Has next p q → member (oneRound next seen) q ≡ true
+    unfolding oneRound
+    round-adds h p q e s = member-union-from seen (rowsAt next (members seen)) q ∙ or-right (member seen q) (rows-named (members seen) p q (members-are seen p .1 (member-activity seen p h e, e)) s)
 
-    pub grown-only : (k : ℕ) → member (grown next seen) k ≡ true → (member seen k ≡ true) ⊎ ((p : ℕ) × (member seen p ≡ true) × Has next p k)
-    unfolding grown
-    grown-only k e =
+    pub round-only : (k : ℕ) → member (oneRound next seen) k ≡ true → (member seen k ≡ true) ⊎ ((p : ℕ) × (member seen p ≡ true) × Has next p k)
+    unfolding oneRound
+    round-only k e =
         ⊎-elim inl (λ t. let w = named-rows (members seen) k t in inr (w .0, members-are seen (w .0) .0 (w .1) .1, w .2))
         (or-cases (member seen k) (named (rowsAt next (members seen)) k) (sym (member-union-from seen (rowsAt next (members seen)) k) ∙ e))
 
@@ -64,49 +64,49 @@ module _ (next : List ℕ) where
     spread-lt m [] h = h
     spread-lt m (k ∷ ks) h = spread-lt (union m (getD next k 0)) ks (union-lt m (getD next k 0) h (small k))
 
-    grown-lt : (seen : ℕ) → seen < 2 ^ 32 → grown next seen < 2 ^ 32
-    unfolding grown
-    grown-lt seen h = spread-lt seen (members seen) h
+    round-lt : (seen : ℕ) → seen < 2 ^ 32 → oneRound next seen < 2 ^ 32
+    unfolding oneRound
+    round-lt seen h = spread-lt seen (members seen) h
 
     -- ---- all rounds
 
     rounds-lt : (n seen : ℕ) → seen < 2 ^ 32 → rounds n next seen < 2 ^ 32
     unfolding rounds
     rounds-lt zero seen h = h
-    rounds-lt (suc n) seen h = rounds-lt n (grown next seen) (grown-lt seen h)
+    rounds-lt (suc n) seen h = rounds-lt n (oneRound next seen) (round-lt seen h)
 
     rounds-keep : (n seen k : ℕ) → member seen k ≡ true → member (rounds n next seen) k ≡ true
     unfolding rounds
     rounds-keep zero seen k e = e
-    rounds-keep (suc n) seen k e = rounds-keep n (grown next seen) k (grown-keeps seen k e)
+    rounds-keep (suc n) seen k e = rounds-keep n (oneRound next seen) k (round-keeps seen k e)
 
     -- sound: what is in the set after the rounds is steps away from the first
     rounds-sound : (from n seen : ℕ) → ((k : ℕ) → member seen k ≡ true → Along (Has next) from k) → (k : ℕ) → member (rounds n next seen) k ≡ true → Along (Has next) from k
     unfolding rounds
     rounds-sound from zero seen s k e = s k e
     rounds-sound from (suc n) seen s k e =
-        rounds-sound from n (grown next seen)
-        (λ j t. ⊎-elim (λ u. s j u) (λ w. along-join (s (w .0) (w .1)) (along-one (w .2))) (grown-only seen j t)) k e
+        rounds-sound from n (oneRound next seen)
+        (λ j t. ⊎-elim (λ u. s j u) (λ w. along-join (s (w .0) (w .1)) (along-one (w .2))) (round-only seen j t)) k e
 
-    rounds-still : (n seen : ℕ) → grown next seen ≡ seen → rounds n next seen ≡ seen
+    rounds-still : (n seen : ℕ) → oneRound next seen ≡ seen → rounds n next seen ≡ seen
     unfolding rounds
     rounds-still zero seen e = refl
     rounds-still (suc n) seen e = ap (rounds n next) e ∙ rounds-still n seen e
 
     -- after n rounds a further one adds nothing, or each of them has added a member
-    rounds-fill : (n seen : ℕ) → seen < 2 ^ 32 → (grown next (rounds n next seen) ≡ rounds n next seen) ⊎ (size seen + n ≤ size (rounds n next seen))
+    rounds-fill : (n seen : ℕ) → seen < 2 ^ 32 → (oneRound next (rounds n next seen) ≡ rounds n next seen) ⊎ (size seen + n ≤ size (rounds n next seen))
     unfolding rounds
     rounds-fill zero seen h = inr (omega arith)
-    rounds-fill (suc n) seen h = go (decEq seen (grown next seen)) (rounds-fill n (grown next seen) (grown-lt seen h))
+    rounds-fill (suc n) seen h = go (decEq seen (oneRound next seen)) (rounds-fill n (oneRound next seen) (round-lt seen h))
       where
-        go : Dec (seen ≡ grown next seen)
-            → (grown next (rounds n next (grown next seen)) ≡ rounds n next (grown next seen)) ⊎ (size (grown next seen) + n ≤ size (rounds n next (grown next seen)))
-            → (grown next (rounds n next (grown next seen)) ≡ rounds n next (grown next seen)) ⊎ (size seen + suc n ≤ size (rounds n next (grown next seen)))
+        go : Dec (seen ≡ oneRound next seen)
+            → (oneRound next (rounds n next (oneRound next seen)) ≡ rounds n next (oneRound next seen)) ⊎ (size (oneRound next seen) + n ≤ size (rounds n next (oneRound next seen)))
+            → (oneRound next (rounds n next (oneRound next seen)) ≡ rounds n next (oneRound next seen)) ⊎ (size seen + suc n ≤ size (rounds n next (oneRound next seen)))
         go (yes e) w =
-            let s : rounds n next (grown next seen) ≡ seen = ap (rounds n next) (sym e) ∙ rounds-still n seen (sym e) in
-            inl (ap (grown next) s ∙ sym e ∙ sym s)
+            let s : rounds n next (oneRound next seen) ≡ seen = ap (rounds n next) (sym e) ∙ rounds-still n seen (sym e) in
+            inl (ap (oneRound next) s ∙ sym e ∙ sym s)
         go (no d) (inl q) = inl q
-        go (no d) (inr q) = let l = size-lt seen (grown next seen) h (grown-lt seen h) (grown-keeps seen) d in inr (omega arith)
+        go (no d) (inr q) = let l = size-lt seen (oneRound next seen) h (round-lt seen h) (round-keeps seen) d in inr (omega arith)
 
     -- ---- reach
 
@@ -123,13 +123,13 @@ module _ (next : List ℕ) where
       reach-first = rounds-keep _ (single from) from (single-has from activity)
 
       -- a further round adds nothing, since a set has at most 32 members
-      reach-still : grown next (reach next from) ≡ reach next from
+      reach-still : oneRound next (reach next from) ≡ reach next from
       unfolding reach
       reach-still = ⊎-elim (λ e. e) (λ l. absurd (omega (arith, one, size-le (reach next from)))) (rounds-fill _ (single from) (single-lt from))
 
       pub reach-closed : Closed next (reach next from)
       unfolding Closed
-      reach-closed p q e s = subst (λ (m : ℕ). member m q ≡ true) reach-still (grown-adds (reach next from) (reach-lt from) p q e s)
+      reach-closed p q e s = subst (λ (m : ℕ). member m q ≡ true) reach-still (round-adds (reach next from) (reach-lt from) p q e s)
 
       pub reach-sound : (k : ℕ) → member (reach next from) k ≡ true → Along (Has next) from k
       unfolding reach

@@ -32,12 +32,12 @@ abbrev pub rowsAt : List ℕ → List ℕ → List ℕ
 rowsAt rows which = map (λ a. getD rows a 0) which
 
 -- the set, with all that are one step on from its members
-unfoldable pub grown : List ℕ → ℕ → ℕ
-grown next seen = unionFrom seen (rowsAt next (members seen))
+unfoldable pub oneRound : List ℕ → ℕ → ℕ
+oneRound next seen = unionFrom seen (rowsAt next (members seen))
 
 unfoldable pub rounds : ℕ → List ℕ → ℕ → ℕ
 rounds zero next seen = seen
-rounds (suc n) next seen = rounds n next (grown next seen)
+rounds (suc n) next seen = rounds n next (oneRound next seen)
 
 -- all that are reached from an activity, itself among them; as there are 32 activities, 32 rounds are enough
 unfoldable pub reach : List ℕ → ℕ → ℕ

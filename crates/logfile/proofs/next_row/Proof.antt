@@ -10,7 +10,7 @@ use lib.ListN.{length}
 use lib.Seq.{slice}
 use Rattle.logfile.specs.LogFile.{readLine, sizesOk}
 use Rattle.logfile.specs.Row.{begun, answerOf, isRow}
-use Rattle.logfile.specs.Cursor.{within, readNext}
+use Rattle.logfile.specs.Cursor.{standing, readNext}
 use Rattle.logfile.proofs.AnswerLaws.{line-row, line-is-row, line-filled, row-given, read-stays, read-given}
 use Rattle.logfile.proofs.FileLaws.{Passed, begun-passed, sizes-room, next-unfit, next-differs, next-end, next-here, cursor-stays, cursor-goes}
 use Rattle.logfile.proofs.next_row.Statement.{statement}
@@ -42,11 +42,11 @@ enum-known-header c = search needs
 
 -- the header was passed
 passed : (c : tie.After-header) → let a = c .before .before .before .before .before .before .before .before .args in
-    Passed (now (a .text)) (within (now (a .text)) (a .cursor)) (a .cursor .line) (c .header .given .0 .0) (c .header .given .0 .1 .0)
+    Passed (now (a .text)) (standing (now (a .text)) (a .cursor)) (a .cursor .line) (c .header .given .0 .0) (c .header .given .0 .1 .0)
 passed c =
     let a = c .before .before .before .before .before .before .before .before .args in
     let b = ap (λ (i : ℕ). begun (now (a .text)) i (a .cursor .line)) (sym (c .before .before .before .inside .ensures)) ∙ sym (c .before .before .begin .ensures) ∙ c .header .given .1 in
-    begun-passed (now (a .text)) (within (now (a .text)) (a .cursor)) (a .cursor .line) (c .header .given .0 .0) (c .header .given .0 .1 .0) (omega arith) b
+    begun-passed (now (a .text)) (standing (now (a .text)) (a .cursor)) (a .cursor .line) (c .header .given .0 .0) (c .header .given .0 .1 .0) (omega arith) b
 
 enum-told : tie.Need-enum-told
 enum-told c = search needs

@@ -7,7 +7,7 @@ use borrow.Author.Needs.{needs}
 use borrow.Author.Tests.{not-true, not-false}
 use denote.Ref.{now}
 use lib.Seq.{slice}
-use Rattle.text.specs.Bytes.{count}
+use Rattle.text.specs.Bytes.{occurrences}
 use Rattle.text.specs.Fields.{comma, split}
 use Rattle.text.proofs.FieldLaws.{part-inside, three-parts, rest-inside}
 use Rattle.text.specs.Decimal.{parseNumber}
@@ -26,7 +26,7 @@ returns c =
     sym (end-commas (slice (a .i) (a .e) (now (a .s))) (λ q. c .if1 .taken (c .before .count-byte .ensures ∙ q)) (now (a .word)))
 
 -- the line has two commas, both found inside it, and so three fields
-two : (c : tie.Else1) → let a = c .before .before .before .before .args in count comma (slice (a .i) (a .e) (now (a .s))) ≡ 2
+two : (c : tie.Else1) → let a = c .before .before .before .before .args in occurrences comma (slice (a .i) (a .e) (now (a .s))) ≡ 2
 two c = sym (c .before .count-byte .ensures) ∙ c .if1 .left
 
 find-byte-requires : tie.Need-find-byte-requires

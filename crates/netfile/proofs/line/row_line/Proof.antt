@@ -6,7 +6,7 @@ use native.Mathlib.Omega.{arith}
 use borrow.Author.Needs.{needs}
 use denote.Ref.{now}
 use lib.Seq.{slice}
-use Rattle.text.specs.Bytes.{count}
+use Rattle.text.specs.Bytes.{occurrences}
 use Rattle.text.specs.Fields.{comma, split}
 use Rattle.text.proofs.FieldLaws.{part-inside, three-parts, rest-inside}
 use Rattle.netfile.proofs.RowLaws.{row-commas, row-in, row-out, row-other-word}
@@ -21,7 +21,7 @@ returns c =
     let a = c .before .before .before .args in
     sym (row-commas (slice (a .i) (a .e) (now (a .s))) (λ q. c .if1 .taken (c .before .count-byte .ensures ∙ q)))
 
-two : (c : tie.Else1) → let a = c .before .before .before .args in count comma (slice (a .i) (a .e) (now (a .s))) ≡ 2
+two : (c : tie.Else1) → let a = c .before .before .before .args in occurrences comma (slice (a .i) (a .e) (now (a .s))) ≡ 2
 two c = sym (c .before .count-byte .ensures) ∙ c .if1 .left
 
 find-byte-requires : tie.Need-find-byte-requires

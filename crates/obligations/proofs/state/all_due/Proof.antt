@@ -4,13 +4,13 @@ use mathlib.Core.Path.{_≡_, refl, sym, ap, _∙_}
 use native.Mathlib.Omega.{arith}
 use borrow.Author.Needs.{needs}
 use denote.Ref.{now}
-use Rattle.obligations.specs.State.{places, allDue}
+use Rattle.obligations.specs.State.{placesOf, allDue}
 use Rattle.obligations.proofs.PlaceLaws.{Turn, turn, places-none, due-stop, due-next}
 use Rattle.obligations.proofs.state.all_due.Statement.{statement}
 use Rattle.obligations.proofs.state.all_due.Tie as tie
 
 abbrev Inv-loop : tie.InvT-loop
-Inv-loop due base stride set rest₀ rest = (rest < 2 ^ 32) × (allDue due (places base stride set) ≡ allDue due (places base stride rest))
+Inv-loop due base stride set rest₀ rest = (rest < 2 ^ 32) × (allDue due (placesOf base stride set) ≡ allDue due (placesOf base stride rest))
 
 abbrev μ-loop : tie.MeasureT-loop
 μ-loop due base stride set rest₀ rest = rest
@@ -56,7 +56,7 @@ returns-2 : tie.Need-returns-2 Inv-loop μ-loop
 unfolding allDue
 returns-2 c =
     let a = c .before .before .args in
-    sym (c .before .loop .inv .1 ∙ ap (λ (r : ℕ). allDue (now (a .due)) (places (a .base) (a .stride) r)) (c .loop-test .left) ∙ ap (allDue (now (a .due))) (places-none (a .base) (a .stride)))
+    sym (c .before .loop .inv .1 ∙ ap (λ (r : ℕ). allDue (now (a .due)) (placesOf (a .base) (a .stride) r)) (c .loop-test .left) ∙ ap (allDue (now (a .due))) (places-none (a .base) (a .stride)))
 
 pub all-due-spec : {M : Type 1} → statement M
 all-due-spec =

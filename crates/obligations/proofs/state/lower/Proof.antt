@@ -6,13 +6,13 @@ use native.Mathlib.Omega.{arith}
 use borrow.Author.Needs.{needs}
 use denote.Ref.{now}
 use lib.ListN.{set}
-use Rattle.obligations.specs.State.{places, lowered}
+use Rattle.obligations.specs.State.{placesOf, lowered}
 use Rattle.obligations.proofs.PlaceLaws.{Turn, turn, places-none, Covers, due-covers, covers-head, covers-next}
 use Rattle.obligations.proofs.state.lower.Statement.{statement}
 use Rattle.obligations.proofs.state.lower.Tie as tie
 
 abbrev Inv-loop : tie.InvT-loop
-Inv-loop due₀ base stride set rest₀ due rest = (rest < 2 ^ 32) × (lowered due₀ (places base stride set) ≡ lowered due (places base stride rest)) × Covers due (places base stride rest)
+Inv-loop due₀ base stride set rest₀ due rest = (rest < 2 ^ 32) × (lowered due₀ (placesOf base stride set) ≡ lowered due (placesOf base stride rest)) × Covers due (placesOf base stride rest)
 
 abbrev μ-loop : tie.MeasureT-loop
 μ-loop due₀ base stride set rest₀ due rest = rest
@@ -62,7 +62,7 @@ unfolding lowered
 returns c =
     let a = c .before .before .args in
     let l = c .before .loop in
-    sym (l .inv .1 ∙ ap (λ (r : ℕ). lowered (l .due) (places (a .base) (a .stride) r)) (c .loop-test .left) ∙ ap (lowered (l .due)) (places-none (a .base) (a .stride)))
+    sym (l .inv .1 ∙ ap (λ (r : ℕ). lowered (l .due) (placesOf (a .base) (a .stride) r)) (c .loop-test .left) ∙ ap (lowered (l .due)) (places-none (a .base) (a .stride)))
 
 pub lower-spec : {M : Type 1} → statement M
 lower-spec =

@@ -6,13 +6,13 @@ use native.Mathlib.Omega.{arith}
 use borrow.Author.Needs.{needs}
 use denote.Ref.{now}
 use lib.ListN.{set}
-use Rattle.obligations.specs.State.{places, raised}
+use Rattle.obligations.specs.State.{placesOf, raised}
 use Rattle.obligations.proofs.PlaceLaws.{Turn, turn, places-none, Room, state-room, room-head, room-next}
 use Rattle.obligations.proofs.state.raise.Statement.{statement}
 use Rattle.obligations.proofs.state.raise.Tie as tie
 
 abbrev Inv-loop : tie.InvT-loop
-Inv-loop due₀ base stride set rest₀ due rest = (rest < 2 ^ 32) × (raised due₀ (places base stride set) ≡ raised due (places base stride rest)) × Room due (places base stride rest)
+Inv-loop due₀ base stride set rest₀ due rest = (rest < 2 ^ 32) × (raised due₀ (placesOf base stride set) ≡ raised due (placesOf base stride rest)) × Room due (placesOf base stride rest)
 
 abbrev μ-loop : tie.MeasureT-loop
 μ-loop due₀ base stride set rest₀ due rest = rest
@@ -62,7 +62,7 @@ unfolding raised
 returns c =
     let a = c .before .before .args in
     let l = c .before .loop in
-    sym (l .inv .1 ∙ ap (λ (r : ℕ). raised (l .due) (places (a .base) (a .stride) r)) (c .loop-test .left) ∙ ap (raised (l .due)) (places-none (a .base) (a .stride)))
+    sym (l .inv .1 ∙ ap (λ (r : ℕ). raised (l .due) (placesOf (a .base) (a .stride) r)) (c .loop-test .left) ∙ ap (raised (l .due)) (places-none (a .base) (a .stride)))
 
 pub raise-spec : {M : Type 1} → statement M
 raise-spec =

@@ -7,7 +7,7 @@ use lib.ListN.{length}
 use Rattle.text.specs.Fields.{comma}
 use Rattle.text.proofs.WriteLaws.{wrote-append}
 use Rattle.search.specs.Replay.{replayMeans, says-found, says-none, says-spent, says-refused}
-use Rattle.report.specs.Report.{answerWord, rowText}
+use Rattle.report.specs.Report.{answerWord, reportLine}
 use Rattle.report.proofs.TextLaws.{last-width, row-bytes, row-width}
 use Rattle.report.proofs.write.write_row.Statement.{statement}
 use Rattle.report.proofs.write.write_row.Tie as tie
@@ -34,7 +34,7 @@ write-last-requires : tie.Need-write-last-requires
 write-last-requires c κs =
     let s = c .before .before .before .before .before .before .before .before .before .before .before .before .before .before .before .before .before .before .before .args in
     let k = c .before .before .before .answer .given in
-    omega (arith, row-width (s .row) (s .sessions) (says-found (k .0 .0)), ap (λ a. length (rowText (s .row) (s .sessions) (replayMeans a))) (k .1), last-width (comma ∷ (answerWord (says-found (k .0 .0)) ++ (comma ∷ []))) (k .0 .0))
+    omega (arith, row-width (s .row) (s .sessions) (says-found (k .0 .0)), ap (λ a. length (reportLine (s .row) (s .sessions) (replayMeans a))) (k .1), last-width (comma ∷ (answerWord (says-found (k .0 .0)) ++ (comma ∷ []))) (k .0 .0))
 
 enum-known-answer-2 : tie.Need-enum-known-answer-2
 enum-known-answer-2 c = search needs
@@ -46,7 +46,7 @@ write-last-requires-2 : tie.Need-write-last-requires-2
 write-last-requires-2 c κs =
     let s = c .before .before .before .before .before .before .before .before .before .before .before .before .before .before .before .before .before .before .before .args in
     let k = c .before .before .before .answer2 .given in
-    omega (arith, row-width (s .row) (s .sessions) (says-none (k .0 .0)), ap (λ a. length (rowText (s .row) (s .sessions) (replayMeans a))) (k .1), last-width (comma ∷ (answerWord (says-none (k .0 .0)) ++ (comma ∷ []))) (k .0 .0))
+    omega (arith, row-width (s .row) (s .sessions) (says-none (k .0 .0)), ap (λ a. length (reportLine (s .row) (s .sessions) (replayMeans a))) (k .1), last-width (comma ∷ (answerWord (says-none (k .0 .0)) ++ (comma ∷ []))) (k .0 .0))
 
 enum-known-answer-3 : tie.Need-enum-known-answer-3
 enum-known-answer-3 c = search needs
@@ -58,7 +58,7 @@ write-last-requires-3 : tie.Need-write-last-requires-3
 write-last-requires-3 c κs =
     let s = c .before .before .before .before .before .before .before .before .before .before .before .before .before .before .before .before .before .before .before .args in
     let k = c .before .before .before .answer3 .given in
-    omega (arith, row-width (s .row) (s .sessions) (says-spent (k .0 .0)), ap (λ a. length (rowText (s .row) (s .sessions) (replayMeans a))) (k .1), last-width (comma ∷ (answerWord (says-spent (k .0 .0)) ++ (comma ∷ []))) (k .0 .0))
+    omega (arith, row-width (s .row) (s .sessions) (says-spent (k .0 .0)), ap (λ a. length (reportLine (s .row) (s .sessions) (replayMeans a))) (k .1), last-width (comma ∷ (answerWord (says-spent (k .0 .0)) ++ (comma ∷ []))) (k .0 .0))
 
 enum-told : tie.Need-enum-told
 enum-told c = search needs
@@ -70,7 +70,7 @@ write-last-requires-4 : tie.Need-write-last-requires-4
 write-last-requires-4 c κs =
     let s = c .before .before .before .before .before .before .before .before .before .before .before .before .before .before .before .before .before .before .args in
     let k = c .before .before .enum-told .given in
-    omega (arith, row-width (s .row) (s .sessions) (says-refused (k .0 .0) (k .0 .1 .0)), ap (λ a. length (rowText (s .row) (s .sessions) (replayMeans a))) (k .1), last-width (comma ∷ (answerWord (says-refused (k .0 .0) (k .0 .1 .0)) ++ (comma ∷ []))) (0))
+    omega (arith, row-width (s .row) (s .sessions) (says-refused (k .0 .0) (k .0 .1 .0)), ap (λ a. length (reportLine (s .row) (s .sessions) (replayMeans a))) (k .1), last-width (comma ∷ (answerWord (says-refused (k .0 .0) (k .0 .1 .0)) ++ (comma ∷ []))) (0))
 
 same-length : tie.Need-same-length
 same-length c = search needs
@@ -79,7 +79,7 @@ returns : tie.Need-returns
 returns c =
     let s = c .before .before .before .before .before .before .before .before .before .before .before .before .before .before .before .before .before .before .before .before .before .before .args in
     let k = c .before .before .before .before .before .before .answer .given in
-    rw (ap (λ a. rowText (s .row) (s .sessions) (replayMeans a)) (k .1) ∙ row-bytes (s .row) (s .sessions) (says-found (k .0 .0))) (wrote-append (wrote-append (wrote-append (c .before .before .before .before .before .before .before .before .before .before .before .before .before .before .before .before .before .before .before .write-number .ensures) (c .before .before .before .before .before .before .before .before .before .before .before .before .before .before .write-bytes .ensures)) (c .before .before .before .before .before .before .before .before .before .before .write-number2 .ensures)) (c .before .before .write-last .ensures))
+    rw (ap (λ a. reportLine (s .row) (s .sessions) (replayMeans a)) (k .1) ∙ row-bytes (s .row) (s .sessions) (says-found (k .0 .0))) (wrote-append (wrote-append (wrote-append (c .before .before .before .before .before .before .before .before .before .before .before .before .before .before .before .before .before .before .before .write-number .ensures) (c .before .before .before .before .before .before .before .before .before .before .before .before .before .before .write-bytes .ensures)) (c .before .before .before .before .before .before .before .before .before .before .write-number2 .ensures)) (c .before .before .write-last .ensures))
 
 same-length-2 : tie.Need-same-length-2
 same-length-2 c = search needs
@@ -88,7 +88,7 @@ returns-2 : tie.Need-returns-2
 returns-2 c =
     let s = c .before .before .before .before .before .before .before .before .before .before .before .before .before .before .before .before .before .before .before .before .before .before .args in
     let k = c .before .before .before .before .before .before .answer2 .given in
-    rw (ap (λ a. rowText (s .row) (s .sessions) (replayMeans a)) (k .1) ∙ row-bytes (s .row) (s .sessions) (says-none (k .0 .0))) (wrote-append (wrote-append (wrote-append (c .before .before .before .before .before .before .before .before .before .before .before .before .before .before .before .before .before .before .before .write-number .ensures) (c .before .before .before .before .before .before .before .before .before .before .before .before .before .before .write-bytes .ensures)) (c .before .before .before .before .before .before .before .before .before .before .write-number2 .ensures)) (c .before .before .write-last2 .ensures))
+    rw (ap (λ a. reportLine (s .row) (s .sessions) (replayMeans a)) (k .1) ∙ row-bytes (s .row) (s .sessions) (says-none (k .0 .0))) (wrote-append (wrote-append (wrote-append (c .before .before .before .before .before .before .before .before .before .before .before .before .before .before .before .before .before .before .before .write-number .ensures) (c .before .before .before .before .before .before .before .before .before .before .before .before .before .before .write-bytes .ensures)) (c .before .before .before .before .before .before .before .before .before .before .write-number2 .ensures)) (c .before .before .write-last2 .ensures))
 
 same-length-3 : tie.Need-same-length-3
 same-length-3 c = search needs
@@ -97,7 +97,7 @@ returns-3 : tie.Need-returns-3
 returns-3 c =
     let s = c .before .before .before .before .before .before .before .before .before .before .before .before .before .before .before .before .before .before .before .before .before .before .args in
     let k = c .before .before .before .before .before .before .answer3 .given in
-    rw (ap (λ a. rowText (s .row) (s .sessions) (replayMeans a)) (k .1) ∙ row-bytes (s .row) (s .sessions) (says-spent (k .0 .0))) (wrote-append (wrote-append (wrote-append (c .before .before .before .before .before .before .before .before .before .before .before .before .before .before .before .before .before .before .before .write-number .ensures) (c .before .before .before .before .before .before .before .before .before .before .before .before .before .before .write-bytes .ensures)) (c .before .before .before .before .before .before .before .before .before .before .write-number2 .ensures)) (c .before .before .write-last3 .ensures))
+    rw (ap (λ a. reportLine (s .row) (s .sessions) (replayMeans a)) (k .1) ∙ row-bytes (s .row) (s .sessions) (says-spent (k .0 .0))) (wrote-append (wrote-append (wrote-append (c .before .before .before .before .before .before .before .before .before .before .before .before .before .before .before .before .before .before .before .write-number .ensures) (c .before .before .before .before .before .before .before .before .before .before .before .before .before .before .write-bytes .ensures)) (c .before .before .before .before .before .before .before .before .before .before .write-number2 .ensures)) (c .before .before .write-last3 .ensures))
 
 same-length-4 : tie.Need-same-length-4
 same-length-4 c = search needs
@@ -106,7 +106,7 @@ returns-4 : tie.Need-returns-4
 returns-4 c =
     let s = c .before .before .before .before .before .before .before .before .before .before .before .before .before .before .before .before .before .before .before .before .before .args in
     let k = c .before .before .before .before .before .enum-told .given in
-    rw (ap (λ a. rowText (s .row) (s .sessions) (replayMeans a)) (k .1) ∙ row-bytes (s .row) (s .sessions) (says-refused (k .0 .0) (k .0 .1 .0))) (wrote-append (wrote-append (wrote-append (c .before .before .before .before .before .before .before .before .before .before .before .before .before .before .before .before .before .before .write-number .ensures) (c .before .before .before .before .before .before .before .before .before .before .before .before .before .write-bytes .ensures)) (c .before .before .before .before .before .before .before .before .before .write-number2 .ensures)) (c .before .before .write-last4 .ensures))
+    rw (ap (λ a. reportLine (s .row) (s .sessions) (replayMeans a)) (k .1) ∙ row-bytes (s .row) (s .sessions) (says-refused (k .0 .0) (k .0 .1 .0))) (wrote-append (wrote-append (wrote-append (c .before .before .before .before .before .before .before .before .before .before .before .before .before .before .before .before .before .before .write-number .ensures) (c .before .before .before .before .before .before .before .before .before .before .before .before .before .write-bytes .ensures)) (c .before .before .before .before .before .before .before .before .before .write-number2 .ensures)) (c .before .before .write-last4 .ensures))
 
 pub write-row-spec : {M : Type 1} → statement M
 write-row-spec =

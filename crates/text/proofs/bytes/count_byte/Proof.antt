@@ -7,13 +7,13 @@ use denote.Ref.{now}
 use lib.Dec.{eqb}
 use lib.ListN.{getD}
 use lib.Seq.{slice}
-use Rattle.text.specs.Bytes.{count}
-use Rattle.text.proofs.ByteLaws.{flag-indicator, indicator-le, count-step, count-end}
+use Rattle.text.specs.Bytes.{occurrences}
+use Rattle.text.proofs.ByteLaws.{flag-indicator, indicator-le, occurrences-step, occurrences-end}
 use Rattle.text.proofs.bytes.count_byte.Statement.{statement}
 use Rattle.text.proofs.bytes.count_byte.Tie as tie
 
 abbrev Inv-loop : tie.InvT-loop
-Inv-loop s i e c n₀ k₀ n k = (k ≤ e) × (n ≤ k) × (n + count c (slice k e s) ≡ count c (slice i e s))
+Inv-loop s i e c n₀ k₀ n k = (k ≤ e) × (n ≤ k) × (n + occurrences c (slice k e s) ≡ occurrences c (slice i e s))
 
 abbrev μ-loop : tie.MeasureT-loop
 μ-loop s i e c n₀ k₀ n k = e - k
@@ -44,12 +44,12 @@ loop-again c =
     let a = c .before .before .before .args in
     let k = c .before .before .loop .k in
     let t = eqb (getD (now (a .s)) k 0) (a .c) in
-    omega (arith, flag-indicator t, indicator-le t, count-step (now (a .s)) k (a .e) (a .c) (search needs) (search needs))
+    omega (arith, flag-indicator t, indicator-le t, occurrences-step (now (a .s)) k (a .e) (a .c) (search needs) (search needs))
 
 returns : tie.Need-returns Inv-loop μ-loop
 returns c =
     let a = c .before .before .args in
-    omega (arith, count-end (now (a .s)) (c .before .loop .k) (a .e) (a .c) (search needs) (search needs))
+    omega (arith, occurrences-end (now (a .s)) (c .before .loop .k) (a .e) (a .c) (search needs) (search needs))
 
 pub count-byte-spec : {M : Type 1} → statement M
 count-byte-spec =

@@ -5,13 +5,13 @@ use native.Mathlib.Omega.{arith}
 use borrow.Author.Needs.{needs}
 use denote.Ref.{now}
 use lib.Seq.{slice}
-use Rattle.text.specs.Bytes.{before}
+use Rattle.text.specs.Bytes.{bytesBefore}
 use Rattle.text.proofs.ByteLaws.{before-here, before-more, before-end}
 use Rattle.text.proofs.bytes.find_byte.Statement.{statement}
 use Rattle.text.proofs.bytes.find_byte.Tie as tie
 
 abbrev Inv-loop : tie.InvT-loop
-Inv-loop s i e c k₀ k = (i ≤ k) × (k ≤ e) × (i + before c (slice i e s) ≡ k + before c (slice k e s))
+Inv-loop s i e c k₀ k = (i ≤ k) × (k ≤ e) × (i + bytesBefore c (slice i e s) ≡ k + bytesBefore c (slice k e s))
 
 abbrev μ-loop : tie.MeasureT-loop
 μ-loop s i e c k₀ k = e - k
