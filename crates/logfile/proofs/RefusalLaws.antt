@@ -230,10 +230,10 @@ module _ (text : List ℕ) (r room : ℕ) where
   None = (line : ℕ) → NoneHolds (rowRefusals text r room line)
 
   said-none : ((n p : ℕ) → readingSays (readRow text r room) ≡ rowMeans (Refused n p) → ⊥) → None
-  said-none = row-listed text r room .accepted-exactly .0
+  said-none = row-listed text r room .not-refused-exactly .0
 
   none-said : None → (n p : ℕ) → readRow text r room ≡ fault n p → ⊥
-  none-said f n p e = row-listed text r room .accepted-exactly .1 f n p (ap readingSays e)
+  none-said f n p e = row-listed text r room .not-refused-exactly .1 f n p (ap readingSays e)
 
   row-there : (s : ℕ) (t : List ℕ) → readRow text r room ≡ row s t → LineIs text (r + 1) (rowText s t)
   row-there s t e = let w = row-on-line text r room s t e in subst (LineIs text (r + 1)) (line-printed (line-row (r + 1) (w .0) s t (w .2))) (w .1)

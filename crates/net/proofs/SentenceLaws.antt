@@ -14,7 +14,7 @@ use lib.Dec.{eqb, ltb}
 use Rattle.obligations.proofs.BoolLaws.{and-left, and-right, false-not-true}
 use Rattle.obligations.proofs.SetLaws.{lt-or-le}
 use Rattle.net.specs.Refusals.{Says, accepted, refused}
-use Rattle.net.specs.Sentences.{Whole, First, Lowest, Sentence, whole, first, lowest, numberOf, HoldsAt, Holds, NoneHolds, Listed, orderOnLine, ListedByLine, AsListed, AsListedByLine}
+use Rattle.net.specs.Sentences.{Whole, First, Lowest, Sentence, whole, first, lowest, numberOf, HoldsAt, Holds, NoneHolds, IsGiven, orderOnLine, IsGivenByLine, AsListed, AsListedByLine}
 
 -- ---- a place is determined by its sentence
 
@@ -156,24 +156,24 @@ module _ {A : Type 0} (refusal : ℕ → ℕ → A) (same : (n m p q : ℕ) → 
   pub told-listed : (ss : List Sentence) → ascends (λ n. n) 0 ss ≡ true → {answer : A} → Told refusal ss value answer → AsListed refusal ss answer
   told-listed ss a (passed none) = record {
     refused-exactly = λ n p. ((λ e. absurd (accepts n p e)), (λ l. absurd (none n p (l .holds))));
-    accepted-exactly = ((λ f. none), (λ f n p e. accepts n p e));
+    not-refused-exactly = ((λ f. none), (λ f n p e. accepts n p e));
     given-or-none = inl none;
   }
   told-listed ss a (stopped m q o) =
       let h = order-holds ss m q o in
-      let here : Listed ss m q = record { holds = h; none-lower = order-first (λ n. n) 0 ss a m q o } in
+      let here : IsGiven ss m q = record { holds = h; none-lower = order-first (λ n. n) 0 ss a m q o } in
       record {
         refused-exactly = λ n p. (
-          (λ e. let s = same m n q p e in subst (λ (x : ℕ). Listed ss x p) (s .0) (subst (λ (x : ℕ). Listed ss m x) (s .1) here)),
+          (λ e. let s = same m n q p e in subst (λ (x : ℕ). IsGiven ss x p) (s .0) (subst (λ (x : ℕ). IsGiven ss m x) (s .1) here)),
           (λ l.
               let e = same-number here l in
               let u = holds-unique (λ n. n) 0 ss a m n q p e h (l .holds) in ap (λ (x : ℕ). refusal x q) (u .0) ∙ ap (refusal n) (u .1)),
         );
-        accepted-exactly = ((λ f. absurd (f m q refl)), (λ none. absurd (none m q h)));
+        not-refused-exactly = ((λ f. absurd (f m q refl)), (λ none. absurd (none m q h)));
         given-or-none = inr (m, q, here);
       }
     where
-      same-number : {m n q p : ℕ} → Listed ss m q → Listed ss n p → m ≡ n
+      same-number : {m n q p : ℕ} → IsGiven ss m q → IsGiven ss n p → m ≡ n
       same-number {m} {n} {q} {p} f g =
           ⊎-elim (λ l. absurd (g .none-lower m q l (f .holds))) (λ l. ⊎-elim (λ k. absurd (f .none-lower n p k (g .holds))) (λ k. omega arith) (lt-or-le n m)) (lt-or-le m n)
 
@@ -203,11 +203,11 @@ module _ {A : Type 0} (refusal : ℕ → ℕ → A) (ss : ℕ → List Sentence)
       rw (same n p) (line-stops line n (subst (λ (x : ℕ). InOrder (ss line) n x) (whole-places (ss line) w n p o) o))
 
   module _ (same : (n m p q : ℕ) → refusal n p ≡ refusal m q → (n ≡ m) × (p ≡ q)) (accepts : (n p : ℕ) → value ≡ refusal n p → ⊥) (a : (l : ℕ) → ascends orderOnLine 0 (ss l) ≡ true) where
-    same-line : {m n k l : ℕ} → ListedByLine ss m k → ListedByLine ss n l → k ≡ l
+    same-line : {m n k l : ℕ} → IsGivenByLine ss m k → IsGivenByLine ss n l → k ≡ l
     same-line {m} {n} {k} {l} f g =
         ⊎-elim (λ h. absurd (g .lines-before k h m 0 (f .holds))) (λ h. ⊎-elim (λ j. absurd (f .lines-before l j n 0 (g .holds))) (λ j. omega arith) (lt-or-le l k)) (lt-or-le k l)
 
-    same-order : {m n k : ℕ} → ListedByLine ss m k → ListedByLine ss n k → m ≡ n
+    same-order : {m n k : ℕ} → IsGivenByLine ss m k → IsGivenByLine ss n k → m ≡ n
     same-order {m} {n} {k} f g =
         let e : orderOnLine m ≡ orderOnLine n = ⊎-elim (λ h. absurd (g .none-before m 0 h (f .holds))) (λ h. ⊎-elim (λ j. absurd (f .none-before n 0 j (g .holds))) (λ j. omega arith) (lt-or-le (orderOnLine n) (orderOnLine m))) (lt-or-le (orderOnLine m) (orderOnLine n)) in
         holds-unique orderOnLine 0 (ss k) (a k) m n 0 0 e (f .holds) (g .holds) .0
@@ -215,19 +215,19 @@ module _ {A : Type 0} (refusal : ℕ → ℕ → A) (ss : ℕ → List Sentence)
     pub told-by-line : {answer : A} → ToldFrom refusal ss value 0 answer → AsListedByLine refusal ss answer
     told-by-line (passed-all none) = record {
       refused-exactly = λ n p. ((λ e. absurd (accepts n p e)), (λ l. absurd (none p (omega arith) n 0 (l .holds))));
-      accepted-exactly = ((λ f l. none l (omega arith)), (λ f n p e. accepts n p e));
+      not-refused-exactly = ((λ f l. none l (omega arith)), (λ f n p e. accepts n p e));
       given-or-none = inl (λ l. none l (omega arith));
     }
     told-by-line (stopped-on m k h before o) =
-        let here : ListedByLine ss m k = record { holds = order-holds (ss k) m 0 o; lines-before = λ l j. before l (omega arith) j; none-before = order-first orderOnLine 0 (ss k) (a k) m 0 o } in
+        let here : IsGivenByLine ss m k = record { holds = order-holds (ss k) m 0 o; lines-before = λ l j. before l (omega arith) j; none-before = order-first orderOnLine 0 (ss k) (a k) m 0 o } in
         record {
           refused-exactly = λ n p. (
-            (λ e. let s = same m n k p e in subst (λ (x : ℕ). ListedByLine ss x p) (s .0) (subst (λ (x : ℕ). ListedByLine ss m x) (s .1) here)),
+            (λ e. let s = same m n k p e in subst (λ (x : ℕ). IsGivenByLine ss x p) (s .0) (subst (λ (x : ℕ). IsGivenByLine ss m x) (s .1) here)),
             (λ l.
                 let e = same-line here l in
-                let there : ListedByLine ss n k = subst (λ (x : ℕ). ListedByLine ss n x) (sym e) l in ap (λ (x : ℕ). refusal x k) (same-order here there) ∙ ap (refusal n) e),
+                let there : IsGivenByLine ss n k = subst (λ (x : ℕ). IsGivenByLine ss n x) (sym e) l in ap (λ (x : ℕ). refusal x k) (same-order here there) ∙ ap (refusal n) e),
           );
-          accepted-exactly = ((λ f. absurd (f m k refl)), (λ none. absurd (none k m 0 (here .holds))));
+          not-refused-exactly = ((λ f. absurd (f m k refl)), (λ none. absurd (none k m 0 (here .holds))));
           given-or-none = inr (m, k, here);
         }
 

@@ -59,7 +59,7 @@ abbrev pub NoneHolds : List Sentence → Type 0
 NoneHolds ss = (number place : ℕ) → Holds ss number place → ⊥
 
 -- the refusal that is given: it holds with this place, and none with a lower number holds
-pub record Listed (ss : List Sentence) (number place : ℕ) : Type 0 where
+pub record IsGiven (ss : List Sentence) (number place : ℕ) : Type 0 where
   pub holds : Holds ss number place
   pub none-lower : (n p : ℕ) → n < number → Holds ss n p → ⊥
 
@@ -70,7 +70,7 @@ abbrev pub orderOnLine : ℕ → ℕ
 orderOnLine number = cond (eqb number line-form || eqb number number-form) number (number + number-form)
 
 -- the refusal that is given: it holds of the first line of which any does, and there none that comes before it holds
-pub record ListedByLine (ss : ℕ → List Sentence) (number line : ℕ) : Type 0 where
+pub record IsGivenByLine (ss : ℕ → List Sentence) (number line : ℕ) : Type 0 where
   pub holds : Holds (ss line) number 0
   pub lines-before : (l : ℕ) → l < line → NoneHolds (ss l)
   pub none-before : (n p : ℕ) → orderOnLine n < orderOnLine number → Holds (ss line) n p → ⊥
@@ -81,11 +81,11 @@ pub record ListedByLine (ss : ℕ → List Sentence) (number line : ℕ) : Type 
 -- none holds
 pub record Answered {A : Type 0} (refusal : ℕ → ℕ → A) (Given : ℕ → ℕ → Type 0) (None : Type 0) (answer : A) : Type 0 where
   pub refused-exactly : (number place : ℕ) → (answer ≡ refusal number place) ↔ Given number place
-  pub accepted-exactly : ((number place : ℕ) → answer ≡ refusal number place → ⊥) ↔ None
+  pub not-refused-exactly : ((number place : ℕ) → answer ≡ refusal number place → ⊥) ↔ None
   pub given-or-none : None ⊎ ((number place : ℕ) × Given number place)
 
 abbrev pub AsListed : {A : Type 0} → (ℕ → ℕ → A) → List Sentence → A → Type 0
-AsListed refusal ss answer = Answered refusal (Listed ss) (NoneHolds ss) answer
+AsListed refusal ss answer = Answered refusal (IsGiven ss) (NoneHolds ss) answer
 
 abbrev pub AsListedByLine : {A : Type 0} → (ℕ → ℕ → A) → (ℕ → List Sentence) → A → Type 0
-AsListedByLine refusal ss answer = Answered refusal (ListedByLine ss) ((line : ℕ) → NoneHolds (ss line)) answer
+AsListedByLine refusal ss answer = Answered refusal (IsGivenByLine ss) ((line : ℕ) → NoneHolds (ss line)) answer

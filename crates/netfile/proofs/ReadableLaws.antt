@@ -129,7 +129,7 @@ module _ (text : List ℕ) (r : Readable text) where
       (⊎-elim (λ w. let b = w .1 .bad in b .too-many (fewer sets _ _ (λ m u. row-there (u .line) (b .side) (b .activity) m (u .low) (u .is-row)) (r .at-most (b .side) (b .activity)))) (λ w. w))))
 
 pub readable-accepted : (text : List ℕ) → Readable text → readNet text .says ≡ accepted 0
-readable-accepted text r = go (net-told text) (net-listed text .accepted-exactly .1 (none-readable text r))
+readable-accepted text r = go (net-told text) (net-listed text .not-refused-exactly .1 (none-readable text r))
   where
     go : {answer : Says} → ToldFrom refused (netRefusals text) (accepted 0) 0 answer → ((n p : ℕ) → answer ≡ refused n p → ⊥) → answer ≡ accepted 0
     go (passed-all f) never = refl

@@ -37,7 +37,7 @@ module _ (net other : Net) (o : Orderly net) (c : Contained net other) where
 pub none-exactly : (net : Net) (trace : List ℕ) (budget : ℕ) (out : List ℕ) → ReplayNotRefused net trace budget out
     → SaysNone net trace budget out ↔ (EndsWithin net trace budget × NoChoice net trace)
 none-exactly net trace budget out h =
-    let none = replay-as-listed net trace budget (length out) .accepted-exactly .0 h in (
+    let none = replay-as-listed net trace budget (length out) .not-refused-exactly .0 h in (
       (λ w. let q = none-said net trace budget (length out) (w .0) .0 (w .1) in (omega (arith, q .1, q .2), q .3)),
       (λ w. (trialsOf (replayed net trace), none-said net trace budget (length out) (trialsOf (replayed net trace)) .1 (none, refl, w .0, w .1))),
     )

@@ -8,7 +8,7 @@ use mathlib.Core.List.{List, [], _∷_, List·Memᴰ}
 use mathlib.Core.Logic.{_↔_, _⊎_, inl, inr}
 use Rattle.obligations.specs.Sequence.{Binding}
 use Rattle.net.specs.Refusals.{Says, accepted}
-use Rattle.net.specs.Sentences.{NoneHolds, Listed}
+use Rattle.net.specs.Sentences.{NoneHolds, IsGiven}
 use Rattle.net.specs.Orderly.{endsOk}
 use Rattle.net.specs.Fresh.{freshNet}
 use Rattle.net.specs.Contained.{containedSays}
@@ -44,13 +44,13 @@ called net call = record {
 }
   where
     not-refused : (new : ℕ) → says net call ≡ accepted new → NoneHolds (refusals net call)
-    not-refused new e = call-listed net call .accepted-exactly .0 (λ n p f. accepted-not-refused new n p (sym e ∙ f))
+    not-refused new e = call-listed net call .not-refused-exactly .0 (λ n p f. accepted-not-refused new n p (sym e ∙ f))
 
 -- ---- a list of calls
 
 -- one call, and the run of the others
 runs-more : (net : Net) (call : Call) (calls : List Call) → ((next : Net) → Runs next calls (answers next calls) (learned next calls) (grown next calls))
-    → NoneHolds (refusals net call) ⊎ ((n p : ℕ) × Listed (refusals net call) n p)
+    → NoneHolds (refusals net call) ⊎ ((n p : ℕ) × IsGiven (refusals net call) n p)
     → Runs net (call ∷ calls) (answers net (call ∷ calls)) (learned net (call ∷ calls)) (grown net (call ∷ calls))
 unfolding answers grown
 runs-more net call calls rest (inl none) =

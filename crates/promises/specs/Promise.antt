@@ -5,7 +5,7 @@ use mathlib.Core.List.{List, [], _∷_, _++_, List·Memᴰ}
 use mathlib.Core.Logic.{_↔_}
 use Rattle.obligations.specs.Sequence.{Binding}
 use Rattle.net.specs.Refusals.{Says}
-use Rattle.net.specs.Sentences.{NoneHolds, Listed, AsListed}
+use Rattle.net.specs.Sentences.{NoneHolds, IsGiven, AsListed}
 use Rattle.net.specs.Sides.{netSize}
 use Rattle.net.specs.Fresh.{freshMeans, freshSays, freshGives}
 use Rattle.net.specs.Contained.{containedMeans, containedSays}
@@ -31,7 +31,7 @@ pub record Called (net : Net) (call : Call) : Type 0 where
   pub as-listed : AsListed (λ n p. learnMeans (Refused n p)) (refusals net call) (says net call)
   pub accepted-exactly : (new : ℕ) → (says net call ≡ learnMeans (Learned new)) ↔ (NoneHolds (refusals net call) × (netSize (gives net call) ≡ netSize net + new))
   pub gains : NoneHolds (refusals net call) → Gains net (sequenceOf call) (gives net call)
-  pub stays : (number place : ℕ) → Listed (refusals net call) number place → gives net call ≡ net
+  pub stays : (number place : ℕ) → IsGiven (refusals net call) number place → gives net call ≡ net
 
 -- a list of calls run from a net as the papers list it: what each says, the sequences of those accepted, and the last net
 pub data Runs : Net → List Call → List Says → List (List Binding) → Net → Type 0 where
@@ -40,7 +40,7 @@ pub data Runs : Net → List Call → List Says → List (List Binding) → Net 
       → NoneHolds (refusals net call) → Gains net (sequenceOf call) after → netSize after ≡ netSize net + new
       → Runs after calls said ss last → Runs net (call ∷ calls) (learnMeans (Learned new) ∷ said) (sequenceOf call ∷ ss) last
   refuses : {net last : Net} {call : Call} {calls : List Call} {number place : ℕ} {said : List Says} {ss : List (List Binding)}
-      → Listed (refusals net call) number place
+      → IsGiven (refusals net call) number place
       → Runs net calls said ss last → Runs net (call ∷ calls) (learnMeans (Refused number place) ∷ said) ss last
 
 -- what is promised of a list of calls, the first of which is given the net `first`

@@ -27,7 +27,7 @@ use Rattle.sequences.specs.Gain.{gained, fits}
 use Rattle.sequences.specs.Learn.{newSets}
 use Rattle.sequences.specs.Statements.{Words}
 use Rattle.sequences.specs.Follow.{followedFrom, followed, followPositions, followSays, followGives, FollowDone}
-use Rattle.sequences.specs.Inner.{Positions, TracePositions, limitsMeans, TraceLimitsOf, GainDone, RefusedWith, nextSet, TraceDone}
+use Rattle.sequences.specs.Inner.{WithinLimits, TraceWithinLimits, limitsMeans, TraceLimitsOf, GainDone, RefusedWith, nextSet, TraceDone}
 use Rattle.sequences.specs.declared.Limited.{Limited}
 use Rattle.sequences.specs.declared.Limited.the-variants.{Within, Beyond}
 use Rattle.sequences.specs.declared.LearnResult.{LearnResult}
@@ -79,7 +79,7 @@ front-words buf s n e h =
     let l : length (words s) ≡ 3 * n = length-words s ∙ ap (λ (k : ℕ). 3 * k) e in
     ap (take (3 * n)) (sets-eq (words s) buf 0 (omega arith)) ∙ take-at (words s) (drop (0 + length (words s)) buf) (3 * n) l
 
-pub followed-positions : (t : List ℕ) (n : ℕ) → TracePositions t n → Positions (words (followed t)) n
+pub followed-positions : (t : List ℕ) (n : ℕ) → TraceWithinLimits t n → WithinLimits (words (followed t)) n
 followed-positions t n p = record {
   whole = length-words (followed t) ∙ ap (λ (k : ℕ). 3 * k) (length-followed 0 t ∙ p .whole);
   few = p .few;

@@ -13,7 +13,7 @@ use Rattle.obligations.specs.Sequence.{bindings, at}
 use Rattle.obligations.proofs.TraceLaws.{no-activity-ext, activities-below}
 use Rattle.obligations.proofs.SequenceLaws.{held-at, length-bindings}
 use Rattle.sequences.specs.Limits.{wordsWithin, withinLimits, traceWithinLimits}
-use Rattle.sequences.specs.Inner.{Positions, TracePositions, LimitsOf, TraceLimitsOf}
+use Rattle.sequences.specs.Inner.{WithinLimits, TraceWithinLimits, LimitsOf, TraceLimitsOf}
 use Rattle.net.specs.Traces.{traceWithin}
 use Rattle.sequences.specs.declared.Limited.the-variants.{Within, Beyond}
 
@@ -56,7 +56,7 @@ module _ (ws : List ℕ) (n : ℕ) (w : wordsWithin ws ≡ true) (l : length ws 
   unfolding withinLimits
   limits-within h e = record {
     says = λ rest. rw (w, first-same, e);
-    positions-are = λ k q. let z : n ≡ k = cc in subst (Positions ws) z (record { whole = l; few = h; activities-only = activities-below n (λ i. getD ws (3 * i) 0) e });
+    positions-are = λ k q. let z : n ≡ k = cc in subst (WithinLimits ws) z (record { whole = l; few = h; activities-only = activities-below n (λ i. getD ws (3 * i) 0) e });
   }
 
 -- ---- traces
@@ -80,5 +80,5 @@ module _ (trace : List ℕ) (h : length trace ≤ 64) where
   unfolding traceWithinLimits
   trace-within e = record {
     says = λ rest. rw (le-leb (length trace) 64 h, one-apart, e);
-    positions-are = λ k q. let z : length trace ≡ k = cc in subst (TracePositions trace) z (record { whole = refl; few = h; activities-only = activities-below (length trace) (λ i. getD trace i 0) (one-apart ∙ e) });
+    positions-are = λ k q. let z : length trace ≡ k = cc in subst (TraceWithinLimits trace) z (record { whole = refl; few = h; activities-only = activities-below (length trace) (λ i. getD trace i 0) (one-apart ∙ e) });
   }

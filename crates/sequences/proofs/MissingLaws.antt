@@ -15,7 +15,7 @@ use Rattle.net.specs.Lists.{listed}
 use Rattle.net.specs.Sides.{setsOn}
 use Rattle.net.specs.declared.Net.{Net}
 use Rattle.net.specs.declared.Side.the-variants.{Input, Output}
-use Rattle.sequences.specs.Inner.{Positions}
+use Rattle.sequences.specs.Inner.{WithinLimits}
 use Rattle.sequences.specs.Judge.{onSideAt, firstMissing}
 use Rattle.sequences.proofs.WordLaws.{positions-many, activity-here, input-here, output-here}
 
@@ -33,7 +33,7 @@ module _ (net : Net) (ws : List ℕ) (n : ℕ) where
   pub passed-none : Passed net ws n 0 0
   passed-none = record { at-most = omega arith; place-is = refl; all-on = λ j l. absurd (omega arith) }
 
-  module _ (p : Positions ws n) (i place : ℕ) (r : Passed net ws n i place) where
+  module _ (p : WithinLimits ws n) (i place : ℕ) (r : Passed net ws n i place) where
     -- the answer's tests are those of n positions
     of-positions : firstMissing net (bindings ws) ≡ firstFailing n (bothOn net ws)
     unfolding firstMissing

@@ -24,7 +24,7 @@ use Rattle.obligations.proofs.SequenceLaws.{fired, ψ-none, ψ-next, ψ-state, 
 use Rattle.obligations.proofs.BoolLaws.{true-or-false}
 use Rattle.sequences.proofs.WordLaws.{positions-many, activity-here, input-here, output-here, activity-below}
 use Rattle.sequences.specs.Run.{largestTotal, ran}
-use Rattle.sequences.specs.Inner.{Positions}
+use Rattle.sequences.specs.Inner.{WithinLimits}
 use Rattle.sequences.specs.declared.Ran.the-variants.{Impossible, LeftOver, Settled}
 
 -- ---- the three answers
@@ -89,7 +89,7 @@ pub record Running (ws : List ℕ) (n i place : ℕ) (due : List ℕ) (pending p
   pub each-possible : AllPass i (possibleAt (bindings ws))
   pub largest : max peak (largestTotal due (drop i (bindings ws))) ≡ largestTotal nothing (bindings ws)
 
-module _ (ws : List ℕ) (n : ℕ) (p : Positions ws n) where
+module _ (ws : List ℕ) (n : ℕ) (p : WithinLimits ws n) where
   many : length (bindings ws) ≡ n
   many = positions-many ws n p
 

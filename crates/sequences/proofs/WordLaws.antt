@@ -8,12 +8,12 @@ use Rattle.obligations.specs.Sequence.{bindings, at}
 use Rattle.obligations.specs.Trace.{shaped}
 use Rattle.obligations.proofs.TraceLaws.{shaped-ext}
 use Rattle.obligations.proofs.SequenceLaws.{HeldAt, held-at, length-bindings}
-use Rattle.sequences.specs.Inner.{Positions}
+use Rattle.sequences.specs.Inner.{WithinLimits}
 
-pub positions-many : (ws : List ℕ) (n : ℕ) → Positions ws n → length (bindings ws) ≡ n
+pub positions-many : (ws : List ℕ) (n : ℕ) → WithinLimits ws n → length (bindings ws) ≡ n
 positions-many ws n p = length-bindings ws n (p .whole)
 
-module _ (ws : List ℕ) (n : ℕ) (p : Positions ws n) (i place : ℕ) (h : i < n) (e : place ≡ 3 * i) where
+module _ (ws : List ℕ) (n : ℕ) (p : WithinLimits ws n) (i place : ℕ) (h : i < n) (e : place ≡ 3 * i) where
   held : HeldAt ws i
   held = held-at ws i (omega (arith, positions-many ws n p))
 
@@ -30,11 +30,11 @@ module _ (ws : List ℕ) (n : ℕ) (p : Positions ws n) (i place : ℕ) (h : i <
   activity-below = rw e (p .activities-only i h)
 
 -- the code's test of the shape on words is the definition's on bindings
-pub shaped-same : (start end : ℕ) (ws : List ℕ) (n : ℕ) → Positions ws n
+pub shaped-same : (start end : ℕ) (ws : List ℕ) (n : ℕ) → WithinLimits ws n
     → shaped start end (length (bindings ws)) (λ i. at (bindings ws) i .activity) ≡ shaped start end n (λ i. getD ws (3 * i) 0)
 shaped-same start end ws n p =
     ap (λ (k : ℕ). shaped start end k (λ i. at (bindings ws) i .activity)) (positions-many ws n p)
     ∙ shaped-ext start end n (λ i. at (bindings ws) i .activity) (λ i. getD ws (3 * i) 0) (λ i h. held-at ws i (omega (arith, positions-many ws n p)) .activity-held)
 
-pub positions-activities : (ws : List ℕ) (n : ℕ) → Positions ws n → (i : ℕ) → i < length (bindings ws) → at (bindings ws) i .activity < 32
+pub positions-activities : (ws : List ℕ) (n : ℕ) → WithinLimits ws n → (i : ℕ) → i < length (bindings ws) → at (bindings ws) i .activity < 32
 positions-activities ws n p i l = rw (held-at ws i l .activity-held) (p .activities-only i (omega (arith, positions-many ws n p)))

@@ -27,12 +27,12 @@ use Rattle.sequences.specs.declared.LearnResult.{LearnResult}
 -- ---- limits
 
 -- what refusals 3 and 4 leave: n positions, at most 64, whose activities are below 32
-pub record Positions (ws : List ℕ) (n : ℕ) : Type 0 where
+pub record WithinLimits (ws : List ℕ) (n : ℕ) : Type 0 where
   pub whole : length ws ≡ 3 * n
   pub few : n ≤ positions
   pub activities-only : (i : ℕ) → i < n → getD ws (3 * i) 0 < activities
 
-pub record TracePositions (trace : List ℕ) (n : ℕ) : Type 0 where
+pub record TraceWithinLimits (trace : List ℕ) (n : ℕ) : Type 0 where
   pub whole : length trace ≡ n
   pub few : n ≤ positions
   pub activities-only : (i : ℕ) → i < n → getD trace i 0 < activities
@@ -45,12 +45,12 @@ limitsMeans (Beyond n p) rest = refused n p
 -- what the test of a sequence's limits finds: the number of positions, or the refusal
 pub record LimitsOf (ws : List ℕ) (r : Limited) : Type 0 where
   pub says : (rest : Says) → limitsMeans r rest ≡ withinLimits ws rest
-  pub positions-are : (n : ℕ) → r ≡ Within n → Positions ws n
+  pub positions-are : (n : ℕ) → r ≡ Within n → WithinLimits ws n
 
 -- and of a trace's
 pub record TraceLimitsOf (trace : List ℕ) (r : Limited) : Type 0 where
   pub says : (rest : Says) → limitsMeans r rest ≡ traceWithinLimits trace rest
-  pub positions-are : (n : ℕ) → r ≡ Within n → TracePositions trace n
+  pub positions-are : (n : ℕ) → r ≡ Within n → TraceWithinLimits trace n
 
 -- ---- gaining
 

@@ -18,7 +18,7 @@ ghost use lib.Seq.{sets};
 ghost use Rattle.obligations.specs.Sequence.{words};
 ghost use Rattle.net.specs.Orderly.{orderly};
 ghost use Rattle.sequences.specs.Follow.{followed, FollowDone};
-ghost use Rattle.sequences.specs.Inner.{TracePositions, nextSet, TraceDone};
+ghost use Rattle.sequences.specs.Inner.{TraceWithinLimits, nextSet, TraceDone};
 
 // Learns the sequence whose X is the activity before, empty at the first, and whose Y is the activity after, empty at the
 // last. A refused call returns the net given.
@@ -38,7 +38,7 @@ pub fn follow(net: Net, trace: &[u32]) -> LearnResult
 // Follows a trace of n positions that is within the limits.
 fn follow_positions(net: Net, trace: &[u32], n: usize) -> LearnResult
     requires { ⌜ orderly net ≡ true ⌝ }
-    requires { ⌜ TracePositions (now trace) n ⌝ }
+    requires { ⌜ TraceWithinLimits (now trace) n ⌝ }
     ensures { λ r. ⌜ TraceDone net (now (trace .entry)) r ⌝ }
 {
     if !is_shaped(trace, 1, n, net.start, net.end) {
@@ -52,7 +52,7 @@ fn follow_positions(net: Net, trace: &[u32], n: usize) -> LearnResult
 
 // Writes the trace's sequence to the front of the buffer.
 fn write_followed(trace: &[u32], n: usize, out: &mut [u32; 192])
-    requires { ⌜ TracePositions (now trace) n ⌝ }
+    requires { ⌜ TraceWithinLimits (now trace) n ⌝ }
     ensures { λ _. ⌜ now (out .exit) ≡ sets (now (out .entry)) 0 (words (followed (now (trace .entry)))) ⌝ }
 {
     let mut previous: u32 = 0;

@@ -14,7 +14,7 @@ ghost use Rattle.obligations.specs.Limits.{activities};
 ghost use Rattle.obligations.specs.Sequence.{bindings};
 ghost use Rattle.net.specs.Limits.{sets, places};
 ghost use Rattle.net.specs.Orderly.{orderly};
-ghost use Rattle.sequences.specs.Inner.{Positions, SetGained, GainDone, RefusedWith};
+ghost use Rattle.sequences.specs.Inner.{WithinLimits, SetGained, GainDone, RefusedWith};
 
 // Added: how many sets a put added. NoRoom: the side can't take the set.
 enum Gained {
@@ -26,7 +26,7 @@ enum Gained {
 // for each position. Where a side would exceed its sets the net given is returned.
 pub fn gain(net: Net, words: &[u32], n: usize) -> LearnResult
     requires { ⌜ orderly net ≡ true ⌝ }
-    requires { ⌜ Positions (now words) n ⌝ }
+    requires { ⌜ WithinLimits (now words) n ⌝ }
     ensures { λ r. ⌜ GainDone net (bindings (now (words .entry))) r ⌝ }
 {
     let start = net.start;

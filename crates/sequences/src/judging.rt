@@ -16,7 +16,7 @@ ghost use mathlib.Core.Bool.{true};
 ghost use Rattle.obligations.specs.Sequence.{bindings};
 ghost use Rattle.net.specs.Orderly.{orderly};
 ghost use Rattle.sequences.specs.Judge.{firstMissing, JudgeDone};
-ghost use Rattle.sequences.specs.Inner.{Positions, RunJudged, PositionsJudged};
+ghost use Rattle.sequences.specs.Inner.{WithinLimits, RunJudged, PositionsJudged};
 
 // Accepts a sequence exactly if the net passes and the sequence is valid in it.
 pub fn judge(net: Net, sequence: &[u32]) -> JudgeAnswer
@@ -41,7 +41,7 @@ pub fn judge(net: Net, sequence: &[u32]) -> JudgeAnswer
 // Judges a sequence of n positions that is within the limits.
 fn judge_positions(net: Net, words: &[u32], n: usize) -> JudgeAnswer
     requires { ⌜ orderly net ≡ true ⌝ }
-    requires { ⌜ Positions (now words) n ⌝ }
+    requires { ⌜ WithinLimits (now words) n ⌝ }
     ensures { λ r. ⌜ PositionsJudged net (bindings (now (words .entry))) r ⌝ }
 {
     let survey = survey_net(net);
@@ -72,7 +72,7 @@ fn judge_positions(net: Net, words: &[u32], n: usize) -> JudgeAnswer
 // then its output sets for Y; a search that doesn't find its set leaves the loop over positions.
 fn first_missing(net: Net, words: &[u32], n: usize) -> u32
     requires { ⌜ orderly net ≡ true ⌝ }
-    requires { ⌜ Positions (now words) n ⌝ }
+    requires { ⌜ WithinLimits (now words) n ⌝ }
     ensures { λ r. ⌜ r ≡ firstMissing net (bindings (now (words .entry))) ⌝ }
 {
     let mut i: usize = 0;
@@ -112,7 +112,7 @@ fn first_missing(net: Net, words: &[u32], n: usize) -> u32
 
 // Refusals 10 and 11, and the peak.
 fn run_judged(words: &[u32], n: usize) -> JudgeAnswer
-    requires { ⌜ Positions (now words) n ⌝ }
+    requires { ⌜ WithinLimits (now words) n ⌝ }
     ensures { λ r. ⌜ RunJudged (bindings (now (words .entry))) r ⌝ }
 {
     let ran = run(words, n);

@@ -16,7 +16,7 @@ ghost use mathlib.Core.Bool.{true};
 ghost use Rattle.obligations.specs.Sequence.{bindings};
 ghost use Rattle.net.specs.Orderly.{orderly};
 ghost use Rattle.sequences.specs.Learn.{firstWronglyEmpty, LearnDone};
-ghost use Rattle.sequences.specs.Inner.{Positions, PositionsDone};
+ghost use Rattle.sequences.specs.Inner.{WithinLimits, PositionsDone};
 
 // Learns a sequence, from whoever proposes it: the net gains exactly its X and Y sets, and the answer is the number that
 // were new. A refused call returns the net given.
@@ -36,7 +36,7 @@ pub fn learn(net: Net, sequence: &[u32]) -> LearnResult
 // Learns a sequence of n positions that is within the limits.
 fn learn_positions(net: Net, words: &[u32], n: usize) -> LearnResult
     requires { ⌜ orderly net ≡ true ⌝ }
-    requires { ⌜ Positions (now words) n ⌝ }
+    requires { ⌜ WithinLimits (now words) n ⌝ }
     ensures { λ r. ⌜ PositionsDone net (bindings (now (words .entry))) r ⌝ }
 {
     if !is_shaped(words, 3, n, net.start, net.end) {
@@ -56,7 +56,7 @@ fn learn_positions(net: Net, words: &[u32], n: usize) -> LearnResult
 
 // The first position whose X or Y is empty or filled where it may not be, or 0: X is empty at the first only, Y at the last.
 fn first_wrongly_empty(words: &[u32], n: usize) -> u32
-    requires { ⌜ Positions (now words) n ⌝ }
+    requires { ⌜ WithinLimits (now words) n ⌝ }
     ensures { λ r. ⌜ r ≡ firstWronglyEmpty (bindings (now (words .entry))) ⌝ }
 {
     let mut i: usize = 0;

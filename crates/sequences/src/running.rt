@@ -7,12 +7,12 @@ ghost use mathlib.Core.Path.{_≡_};
 ghost use Prim.Native.Nat.{max};
 ghost use Rattle.obligations.specs.Sequence.{bindings};
 ghost use Rattle.sequences.specs.Run.{ran};
-ghost use Rattle.sequences.specs.Inner.{Positions};
+ghost use Rattle.sequences.specs.Inner.{WithinLimits};
 
 // Takes the n bindings one after another, up to the first that isn't possible. The total of counts is carried along, so
 // that at the end the state needs no scan.
 pub fn run(words: &[u32], n: usize) -> Ran
-    requires { ⌜ Positions (now words) n ⌝ }
+    requires { ⌜ WithinLimits (now words) n ⌝ }
     ensures { λ r. ⌜ r ≡ ran (bindings (now (words .entry))) ⌝ }
 {
     let mut due = [0u8; 1024];

@@ -8,7 +8,7 @@ use lib.ListN.{length, take, replicate}
 use lib.Seq.{length-sets}
 use Rattle.obligations.specs.Sequence.{Binding, bindings, words}
 use Rattle.obligations.proofs.SequenceLaws.{bindings-words}
-use Rattle.sequences.specs.Inner.{Positions, GainDone}
+use Rattle.sequences.specs.Inner.{WithinLimits, GainDone}
 use Rattle.sequences.specs.Follow.{followed}
 use Rattle.sequences.proofs.FollowLaws.{length-followed, front-words, followed-positions, shaped-trace, refused-trace-ends, followed-or-full}
 use borrow.Author.Needs.{needs}
@@ -54,7 +54,7 @@ gain-requires : tie.Need-gain-requires
 gain-requires c κs =
     let g = c .before .before .before .before .before .before in
     let t = g .args .trace .now in
-    (g .pre .0, subst (λ (l : List ℕ). Positions l (g .args .n)) (sym (front (c .before))) (followed-positions t (g .args .n) (g .pre .1)))
+    (g .pre .0, subst (λ (l : List ℕ). WithinLimits l (g .args .n)) (sym (front (c .before))) (followed-positions t (g .args .n) (g .pre .1)))
 
 returns-2 : tie.Need-returns-2
 returns-2 c =
