@@ -4,27 +4,22 @@
 //
 // This is a test tool. It is proved safe and to end; what a call answers is what the call's own contract says.
 
-mod answer;
-mod buffers;
 mod line;
 mod net_calls;
-mod numbers;
-mod output;
-mod registers;
 mod sequence_calls;
 mod table_calls;
 
-use answer::Answer;
-use answer::write_answer;
-use buffers::byte_room;
-use buffers::script_room;
-use buffers::text_room;
-use buffers::word_room;
 use libc::STDIN_FILENO;
 use libc::STDOUT_FILENO;
 use line::run_line;
-use output::flush;
-use registers::clear;
+use machine::answer::Answer;
+use machine::answer::write_answer;
+use machine::buffers::byte_room;
+use machine::buffers::script_room;
+use machine::buffers::text_room;
+use machine::buffers::word_room;
+use machine::output::flush;
+use machine::registers::clear;
 use text::bytes::find_byte;
 ghost use Prim.Native.Nat.{_≤_, _<_};
 ghost use lib.ListN.{length};

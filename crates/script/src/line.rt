@@ -1,13 +1,13 @@
 // A line of a script: the command that its word names is run with its numbers.
 
-use crate::answer::Answer;
 use crate::net_calls;
-use crate::numbers::read_numbers;
-use crate::numbers::words_from;
-use crate::registers;
-use crate::registers::REGISTERS;
 use crate::sequence_calls;
 use crate::table_calls;
+use machine::answer::Answer;
+use machine::numbers::read_numbers;
+use machine::numbers::words_from;
+use machine::registers;
+use machine::registers::REGISTERS;
 use text::bytes::count_byte;
 use text::bytes::find_byte;
 use text::bytes::same_bytes;

@@ -1,10 +1,10 @@
 // Commands that call fresh, put, contained and check, on register r. A wrong number of arguments makes the line no command.
 
-use crate::answer::Answer;
-use crate::answer::refused;
-use crate::registers::REGISTERS;
-use crate::registers::load;
-use crate::registers::store;
+use machine::answer::Answer;
+use machine::answer::refused;
+use machine::registers::REGISTERS;
+use machine::registers::load;
+use machine::registers::store;
 use net::ContainedAnswer;
 use net::FreshAnswer;
 use net::PutAnswer;

@@ -1,13 +1,13 @@
 // Commands that call judge, learn, follow and replay, on register r. The words of the sequence or trace are the last
 // numbers of the line.
 
-use crate::answer::Answer;
-use crate::answer::refused;
-use crate::buffers::fill_words;
-use crate::buffers::words_untouched;
-use crate::numbers::words_from;
-use crate::registers::load;
-use crate::registers::store;
+use machine::answer::Answer;
+use machine::answer::refused;
+use machine::buffers::fill_words;
+use machine::buffers::words_untouched;
+use machine::numbers::words_from;
+use machine::registers::load;
+use machine::registers::store;
 use net::Net;
 use search::ReplayAnswer;
 use sequences::JudgeAnswer;

@@ -1,16 +1,16 @@
 // Commands that read and write the text register: net reading, net writing and row reading. `text_len`
 // is how many bytes the text has.
 
-use crate::answer::Answer;
-use crate::answer::refused;
-use crate::buffers::bytes_untouched;
-use crate::buffers::fill_bytes;
-use crate::buffers::fill_words;
-use crate::buffers::words_untouched;
-use crate::registers::REGISTERS;
-use crate::registers::load;
-use crate::registers::store;
 use logfile::RowAnswer;
+use machine::answer::Answer;
+use machine::answer::refused;
+use machine::buffers::bytes_untouched;
+use machine::buffers::fill_bytes;
+use machine::buffers::fill_words;
+use machine::buffers::words_untouched;
+use machine::registers::REGISTERS;
+use machine::registers::load;
+use machine::registers::store;
 use net::Net;
 use netfile::NetAnswer;
 use netfile::WriteAnswer;

@@ -1,2 +1,0 @@
--- The definitions that the contracts of `script` cite, of a test tool's own buffers: no sentence of the papers speaks of these.
-pub mod Buffers
