@@ -9,6 +9,7 @@ mod write;
 
 use net::Net;
 pub use read::read_net;
+pub use read::refused_reading;
 pub use write::write_net;
 
 // A net file has at most this many bytes.

@@ -36,11 +36,11 @@ pub fn read_net(text: &[u8]) -> NetReading
     ensures { λ r. ⌜ Reads (readNet (now (text .entry))) r ⌝ }
 {
     if NET_BYTES < text.len() {
-        return refused(OUTSIDE_LIMITS, 0);
+        return refused_reading(OUTSIDE_LIMITS, 0);
     }
     let e = line_end(text, 0);
     if !same_bytes(text, 0, e, b"side,activity,members") {
-        return refused(LINE_FORM, 1);
+        return refused_reading(LINE_FORM, 1);
     }
     read_start(text, next_line(text, e))
 }
@@ -54,7 +54,7 @@ fn read_start(text: &[u8], i: usize) -> NetReading
     let line = end_line(text, i, e, b"start");
     match line {
         EndLine::Activity(start) => read_end(text, next_line(text, e), start),
-        EndLine::Refused(number) => refused(number, 2),
+        EndLine::Refused(number) => refused_reading(number, 2),
     }
 }
 
@@ -68,12 +68,12 @@ fn read_end(text: &[u8], i: usize, start: u32) -> NetReading
     match line {
         EndLine::Activity(end) => {
             if start == end {
-                return refused(BAD_ENDS, 3);
+                return refused_reading(BAD_ENDS, 3);
             }
             let made = fresh(start, end);
             read_rows(text, next_line(text, e), made.net)
         }
-        EndLine::Refused(number) => refused(number, 3),
+        EndLine::Refused(number) => refused_reading(number, 3),
     }
 }
 
@@ -101,7 +101,7 @@ fn read_rows(text: &[u8], at: usize, mut net: Net) -> NetReading
             row,
         );
         if let RowPut::Refused(number) = put {
-            return refused(number, line);
+            return refused_reading(number, line);
         }
         i = next_line(text, e);
         line += 1;
@@ -157,7 +157,7 @@ fn row_put(answer: PutAnswer) -> RowPut
 }
 
 // A refused reading: the fresh net of 0 and 1.
-fn refused(number: u32, place: u32) -> NetReading
+pub fn refused_reading(number: u32, place: u32) -> NetReading
     ensures { λ r. ⌜ Reads (refusedAt number place) r ⌝ }
 {
     let made = fresh(0, 1);

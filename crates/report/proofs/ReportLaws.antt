@@ -1,6 +1,6 @@
 -- Laws of the report, case by case in the order of the tests, and its length. Assumes nothing.
 use Prim.Native.Nat.{ℕ, _+_, _≤_, _<_}
-use mathlib.Core.Path.{_≡_, refl}
+use mathlib.Core.Path.{_≡_, refl, ap}
 use mathlib.Core.Logic.{⊎-elim}
 use mathlib.Core.Bool.{Bool, true, false, cond}
 use mathlib.Core.List.{List, [], _∷_, _++_}
@@ -10,18 +10,22 @@ use denote.Enum.Declared.{tagOf}
 use types.Run.{OneOf}
 use lib.Dec.{leb}
 use lib.ListN.{length, length-append}
+use Rattle.obligations.specs.Limits.{positions}
 use Rattle.text.specs.Inner.{Wrote}
 use Rattle.text.specs.Lines.{unlines}
 use Rattle.net.specs.Refusals.{refused, outside-limits}
+use Rattle.net.specs.Orderly.{orderly}
 use Rattle.net.specs.declared.Net.{Net}
+use Rattle.net.proofs.FreshLaws.{fresh-orderly, zero-one}
 use Rattle.walks.specs.Check.{checkSays}
-use Rattle.netfile.specs.NetFile.{readNet}
+use Rattle.netfile.specs.NetFile.{refusedAt, readNet}
+use Rattle.netfile.proofs.Theorems.{read-orderly}
 use Rattle.logfile.specs.Limits.{logRows}
-use Rattle.logfile.specs.LogFile.{rowMeans}
+use Rattle.logfile.specs.LogFile.{RowSays, rowMeans, readingSays, readRow}
 use Rattle.logfile.specs.declared.RowAnswer.{RowAnswer}
 use Rattle.logfile.specs.declared.RowAnswer.the-variants.{Row, End, Refused}
 use Rattle.logfile.proofs.RowAnswer as row-answer
-use Rattle.report.specs.Report.{fileBytes, reportRoom, netWord, logWord, reportHeader, refusalText, rowsText, logSays, logText, reportText}
+use Rattle.report.specs.Report.{fileBytes, reportRoom, netWord, logWord, reportHeader, refusalText, rowsText, logSays, logText, readChecked, reportText}
 use Rattle.report.proofs.TextLaws.{refusal-short, rows-short}
 
 -- an answer of another kind is no refusal
@@ -60,37 +64,59 @@ module _ (net : Net) (log : List ℕ) where
 
 -- ---- the net
 
+-- what is said of the row after the last that a log may have is said of the log
+pub row-past-all : (log : List ℕ) (a : RowAnswer) → rowMeans a ≡ readingSays (readRow log (logRows + 1) positions) → rowMeans a .says ≡ logSays log
+unfolding logSays
+row-past-all log a h = ap (λ (y : RowSays). y .says) h
+
+module _ (text : List ℕ) where
+  pub checked-long : fileBytes < length text → readChecked text ≡ refusedAt outside-limits 0
+  unfolding readChecked
+  checked-long h = rw (lt-leb (length text) fileBytes h) refl
+
+  module _ (h : length text ≤ fileBytes) where
+    pub checked-unread : (n p : ℕ) → readNet text .says ≡ refused n p → readChecked text ≡ refusedAt n p
+    unfolding readChecked
+    checked-unread n p e = rw (le-leb (length text) fileBytes h, e) refl
+
+    module _ (r : readNet text .says .ok ≡ true) where
+      pub checked-refused : (n p : ℕ) → checkSays (readNet text .net) ≡ refused n p → readChecked text ≡ refusedAt n 0
+      unfolding readChecked
+      checked-refused n p e = rw (le-leb (length text) fileBytes h, r, e) refl
+
+      pub checked-passed : checkSays (readNet text .net) .ok ≡ true → readChecked text ≡ readNet text
+      unfolding readChecked
+      checked-passed e = rw (le-leb (length text) fileBytes h, r, e) refl
+
+pub checked-orderly : (text : List ℕ) → orderly (readChecked text .net) ≡ true
+unfolding readChecked
+checked-orderly text = go (leb (length text) fileBytes) (readNet text .says .ok) (checkSays (readNet text .net) .ok)
+  where
+    go : (a b c : Bool)
+        → orderly (cond a (cond b (cond c (readNet text) (refusedAt (checkSays (readNet text .net) .refusal) 0)) (refusedAt (readNet text .says .refusal) (readNet text .says .place))) (refusedAt outside-limits 0) .net) ≡ true
+    go true true true = read-orderly text
+    go true true false = fresh-orderly 0 1 zero-one
+    go true false c = fresh-orderly 0 1 zero-one
+    go false b c = fresh-orderly 0 1 zero-one
+
 module _ (net log : List ℕ) where
-  pub net-long : fileBytes < length net → reportText net log ≡ refusalText netWord outside-limits 0
+  pub net-refused : (n p : ℕ) → readChecked net .says ≡ refused n p → reportText net log ≡ refusalText netWord n p
   unfolding reportText
-  net-long h = rw (lt-leb (length net) fileBytes h) refl
+  net-refused n p e = rw e refl
 
-  module _ (h : length net ≤ fileBytes) where
-    pub net-unread : (n p : ℕ) → readNet net .says ≡ refused n p → reportText net log ≡ refusalText netWord n p
-    unfolding reportText
-    net-unread n p e = rw (le-leb (length net) fileBytes h, e) refl
-
-    module _ (r : readNet net .says .ok ≡ true) where
-      pub net-unchecked : (n p : ℕ) → checkSays (readNet net .net) ≡ refused n p → reportText net log ≡ refusalText netWord n 0
-      unfolding reportText
-      net-unchecked n p e = rw (le-leb (length net) fileBytes h, r, e) refl
-
-      pub net-checked : checkSays (readNet net .net) .ok ≡ true → reportText net log ≡ logText (readNet net .net) log
-      unfolding reportText
-      net-checked e = rw (le-leb (length net) fileBytes h, r, e) refl
+  pub net-checked : readChecked net .says .ok ≡ true → reportText net log ≡ logText (readChecked net .net) log
+  unfolding reportText
+  net-checked e = rw e refl
 
   -- every report has room in a buffer of 32,768 bytes
   pub report-short : length (reportText net log) ≤ reportRoom
   unfolding reportText
-  report-short = go (leb (length net) fileBytes) (readNet net .says .ok) (checkSays (readNet net .net) .ok)
+  report-short = go (readChecked net .says .ok)
     where
-      go : (a b c : Bool)
-          → length (cond a (cond b (cond c (logText (readNet net .net) log) (refusalText netWord (checkSays (readNet net .net) .refusal) 0)) (refusalText netWord (readNet net .says .refusal) (readNet net .says .place))) (refusalText netWord outside-limits 0)) ≤ reportRoom
-      go true true true = log-short (readNet net .net) log
-      go true true false = omega (arith, refusal-short netWord (checkSays (readNet net .net) .refusal) 0)
-      go true false c = omega (arith, refusal-short netWord (readNet net .says .refusal) (readNet net .says .place))
-      go false b c = omega (arith, refusal-short netWord outside-limits 0)
+      go : (a : Bool) → length (cond a (logText (readChecked net .net) log) (refusalText netWord (readChecked net .says .refusal) (readChecked net .says .place))) ≤ reportRoom
+      go true = log-short (readChecked net .net) log
+      go false = omega (arith, refusal-short netWord (readChecked net .says .refusal) (readChecked net .says .place))
 
--- what was written as a report is no longer than that
-pub wrote-short : (net log buf buf′ : List ℕ) (r : ℕ) → Wrote buf 0 (reportText net log) buf′ r → r ≤ reportRoom
-wrote-short net log buf buf′ r w = omega (arith, w .next, report-short net log)
+-- what was written as the report of a log is no longer than that
+pub log-wrote-short : (net : Net) (log buf buf′ : List ℕ) (r : ℕ) → Wrote buf 0 (logText net log) buf′ r → r ≤ reportRoom
+log-wrote-short net log buf buf′ r w = omega (arith, w .next, log-short net log)

@@ -6,19 +6,19 @@ use lib.ListN.{take}
 use Rattle.net.specs.declared.Net.{Net}
 use Rattle.logfile.specs.Limits.{logRows}
 use Rattle.logfile.specs.LogFile.{RowReading}
-use Rattle.search.specs.Replay.{ReplaySays, replayMeans, checkedSays}
-use Rattle.search.specs.Backtrack.{CheckedDone}
-use Rattle.search.specs.declared.ReplayAnswer.{ReplayAnswer}
+use Rattle.search.specs.Replay.{ReplaySays, checkedSays}
+use Rattle.search.specs.Backtrack.{outcomeMeans, CheckedDone}
+use Rattle.search.specs.declared.Outcome.{Outcome}
 use Rattle.report.specs.Report.{rowBudget, reportLine, readingText, rowsText}
 use Rattle.report.proofs.AnswerLaws.{front-is}
 use Rattle.report.proofs.TextLaws.{rows-step}
 use Rattle.report.proofs.StandingLaws.{RowGiven}
 
 pub row-line : (net : Net) (log : List ℕ) (r s n : ℕ) (trace trace′ : List ℕ) → RowGiven log r s n trace trace′ → r ≤ logRows
-    → (a : ReplayAnswer) (buf buf′ : List ℕ) → CheckedDone net (take n trace′) rowBudget a buf buf′
-    → rowsText net log (logRows + 1 - r) r ≡ reportLine r s (replayMeans a) ++ rowsText net log (logRows + 1 - (r + 1)) (r + 1)
-row-line net log r s n trace trace′ g h a buf buf′ d =
-    let e : replayMeans a ≡ checkedSays net (g .entries) rowBudget = d .says ∙ ap (λ (t : List ℕ). checkedSays net t rowBudget) (front-is (g .entries) trace trace′ n (g .in-front) (g .as-long)) in
+    → (o : Outcome) (buf buf′ : List ℕ) → CheckedDone net (take n trace′) rowBudget o buf buf′
+    → rowsText net log (logRows + 1 - r) r ≡ reportLine r s (outcomeMeans o) ++ rowsText net log (logRows + 1 - (r + 1)) (r + 1)
+row-line net log r s n trace trace′ g h o buf buf′ d =
+    let e : outcomeMeans o ≡ checkedSays net (g .entries) rowBudget = d .says ∙ ap (λ (t : List ℕ). checkedSays net t rowBudget) (front-is (g .entries) trace trace′ n (g .in-front) (g .as-long)) in
     rows-step net log r h
     ∙ ap (λ (x : RowReading). readingText net r x ++ rowsText net log (logRows + 1 - (r + 1)) (r + 1)) (g .is-row)
     ∙ ap (λ (x : ReplaySays). reportLine r s x ++ rowsText net log (logRows + 1 - (r + 1)) (r + 1)) (sym e)

@@ -11,8 +11,7 @@ use Rattle.logfile.specs.Cursor.{start, readNext, cursorAfter, NextRead, Reache
 use Rattle.logfile.specs.declared.Cursor.{Cursor}
 use Rattle.logfile.specs.declared.NextRow.{NextRow}
 use Rattle.logfile.specs.declared.RowAnswer.the-variants.{Row}
-use Rattle.logfile.proofs.Theorems.{row-is-trace, cursor-reads-next, later-same}
-use Rattle.report.specs.Report.{logSays}
+use Rattle.logfile.proofs.Theorems.{row-is-trace, cursor-reads-next}
 use Rattle.report.proofs.AnswerLaws.{given-row, no-row}
 
 pub record Standing (log : List ℕ) (r : ℕ) (c : Cursor) (trace : List ℕ) : Type 0 where
@@ -69,13 +68,3 @@ module _ (log : List ℕ) (r : ℕ) (c : Cursor) (trace : List ℕ) (z : Standin
               ∙ length-append (g .entries) (drop (length (g .entries)) trace)
               ∙ omega (arith, length-drop (length (g .entries)) trace, z .room, row-is-trace log r positions s (g .entries) (g .is-row) .few-entries);
         }
-
-    -- what isn't a row is said of the whole log
-    pub standing-ends : ((s n : ℕ) → x .answer ≡ Row s n → ⊥) → rowMeans (x .answer) .says ≡ logSays log
-    unfolding logSays
-    standing-ends h =
-        ap (λ y. y .says) (standing-says ∙ ap readingSays (sym (later-same log r (logRows + 1) positions (z .low) (z .high) (standing-none h))))
-
-    pub standing-last : logRows < r → rowMeans (x .answer) .says ≡ logSays log
-    unfolding logSays
-    standing-last h = let e : r ≡ logRows + 1 = omega (arith, z .high) in ap (λ y. y .says) (standing-says ∙ ap (λ (k : ℕ). readingSays (readRow log k positions)) e)

@@ -12,7 +12,7 @@ use Rattle.net.specs.Refusals.{Says, outside-limits}
 use Rattle.net.specs.Chains.{unlessBy}
 use Rattle.net.specs.declared.Net.{Net}
 use Rattle.walks.specs.Check.{checkSays}
-use Rattle.netfile.specs.NetFile.{readNet}
+use Rattle.netfile.specs.NetFile.{FileReading, refusedAt, readNet}
 use Rattle.logfile.specs.Limits.{logRows}
 use Rattle.logfile.specs.LogFile.{RowReading, row, end, fault, readRow, readingSays}
 use Rattle.search.specs.Replay.{ReplaySays, says-found, says-none, says-spent, says-refused, checkedSays}
@@ -95,10 +95,18 @@ logText net log =
     (unlessBy (refusalText logWord) (logSays log .ok) (logSays log .refusal) (logSays log .place)
     (unlines (reportHeader ∷ []) ++ rowsText net log logRows 1))
 
--- a refusal of the net check has no line
+-- the net of a file: its size is tested first, then its lines, then the net; a refusal of the net check has no line
+unfoldable pub readChecked : List ℕ → FileReading
+readChecked text =
+    let r = readNet text in
+    let c = checkSays (r .net) in
+    unlessBy refusedAt (leb (length text) fileBytes) outside-limits 0
+    (unlessBy refusedAt (r .says .ok) (r .says .refusal) (r .says .place)
+    (unlessBy refusedAt (c .ok) (c .refusal) 0
+    r))
+
 unfoldable pub reportText : List ℕ → List ℕ → List ℕ
 reportText net log =
-    unlessBy (refusalText netWord) (leb (length net) fileBytes) outside-limits 0
-    (unlessBy (refusalText netWord) (readNet net .says .ok) (readNet net .says .refusal) (readNet net .says .place)
-    (unlessBy (refusalText netWord) (checkSays (readNet net .net) .ok) (checkSays (readNet net .net) .refusal) 0
-    (logText (readNet net .net) log)))
+    let r = readChecked net in
+    unlessBy (refusalText netWord) (r .says .ok) (r .says .refusal) (r .says .place)
+    (logText (r .net) log)

@@ -1,21 +1,25 @@
 // What the program `replay` prints (paper 01, "The tables"): the bytes of a net file and of a log file are turned into the
-// bytes of a report. The net is read and checked once. The log is read twice, row after row: once for a fault anywhere in
-// it, before anything is written, and once for the rows.
+// bytes of a report. The net is read and checked once; only then is the log looked at. It is read twice: once for a fault
+// anywhere in it, before anything is written, and once row after row.
 
 mod write;
 
 use logfile::LOG_ROWS;
 use logfile::RowAnswer;
 use logfile::next_row;
+use logfile::read_row;
 use net::Net;
 use net::refusal::OUTSIDE_LIMITS;
 use netfile::NetAnswer;
+use netfile::NetReading;
 use netfile::read_net;
+use netfile::refused_reading;
+use obligations::POSITIONS;
 use search::replay_lent;
 use text::bytes::write_bytes;
 use walks::CheckAnswer;
-use write::write_refusal;
 use write::write_row;
+pub use write::write_refusal;
 ghost use mathlib.Core.Path.{_≡_};
 ghost use mathlib.Core.Bool.{true};
 ghost use Prim.Native.Nat.{_+_, _≤_};
@@ -23,11 +27,17 @@ ghost use lib.ListN.{length};
 ghost use Rattle.text.specs.Inner.{Wrote};
 ghost use Rattle.net.specs.Orderly.{orderly};
 ghost use Rattle.logfile.specs.Limits.{logRows};
-ghost use Rattle.logfile.specs.LogFile.{rowMeans};
-ghost use Rattle.report.specs.Report.{reportRoom, logSays, rowsText, logText, reportText};
+ghost use Rattle.netfile.specs.NetFile.{Reads};
+ghost use Rattle.report.specs.Report.{reportRoom, rowsText, logText, readChecked, reportText};
 
 // Each of the two files has at most this many bytes.
 pub const FILE_BYTES: usize = 65536;
+
+// The words of the longest sequence, three a position.
+const SEQUENCE_WORDS: usize = 3 * POSITIONS;
+
+// A buffer of this many bytes has room for every report.
+pub const REPORT_ROOM: usize = 32768;
 
 // The budget of a row's replay.
 pub const ROW_BUDGET: u64 = 1000000;
@@ -37,60 +47,53 @@ pub fn report(net_text: &[u8], log_text: &[u8], out: &mut [u8]) -> usize
     requires { ⌜ reportRoom ≤ length (now out) ⌝ }
     ensures { λ r. ⌜ Wrote (now (out .entry)) 0 (reportText (now («net_text» .entry)) (now («log_text» .entry))) (now (out .exit)) r ⌝ }
 {
-    if FILE_BYTES < net_text.len() {
-        return write_refusal(out, b"net", OUTSIDE_LIMITS, 0);
-    }
-    let read = read_net(net_text);
+    let read = read_checked(net_text);
     let answer = read.answer;
-    let net = read.net;
     if let NetAnswer::Refused { number, place } = answer {
         return write_refusal(out, b"net", number, place);
     }
-    let checked = walks::check(net);
+    report_log(read.net, log_text, out)
+}
+
+// Reads a net file and checks the net. A refusal of the check has no line, so its place is 0 here.
+pub fn read_checked(text: &[u8]) -> NetReading
+    ensures { λ r. ⌜ Reads (readChecked (now (text .entry))) r ⌝ }
+{
+    if FILE_BYTES < text.len() {
+        return refused_reading(OUTSIDE_LIMITS, 0);
+    }
+    let read = read_net(text);
+    let answer = read.answer;
+    if let NetAnswer::Refused {
+        number: _,
+        place: _,
+    } = answer
+    {
+        return read;
+    }
+    let checked = walks::check(read.net);
     match checked {
-        CheckAnswer::Passed { arcs: _ } => report_log(net, log_text, out),
-        CheckAnswer::Refused { number, place: _ } => write_refusal(out, b"net", number, 0),
+        CheckAnswer::Passed { arcs: _ } => read,
+        CheckAnswer::Refused { number, place: _ } => refused_reading(number, 0),
     }
 }
 
-// The same for a net that has been checked.
-fn report_log(net: Net, text: &[u8], out: &mut [u8]) -> usize
+// Writes the report of a log in a net that has been checked to the front of the buffer, and returns its length. The whole
+// log is read before anything is written: what is said of the row after the last that a log may have is said of the log.
+pub fn report_log(net: Net, text: &[u8], out: &mut [u8]) -> usize
     requires { ⌜ (orderly net ≡ true) × (reportRoom ≤ length (now out)) ⌝ }
     ensures { λ r. ⌜ Wrote (now (out .entry)) 0 (logText net (now (text .entry))) (now (out .exit)) r ⌝ }
 {
     if FILE_BYTES < text.len() {
         return write_refusal(out, b"log", OUTSIDE_LIMITS, 0);
     }
-    let answer = log_end(text);
+    let mut trace = [0u32; POSITIONS];
+    let answer = read_row(text, LOG_ROWS as u64 + 1, &mut trace);
     if let RowAnswer::Refused { number, place } = answer {
         return write_refusal(out, b"log", number, place);
     }
     let p = write_bytes(out, 0, b"row,sessions,answer,trials\r\n");
     write_rows(net, text, out, p)
-}
-
-// What is said of a whole log: what is read after its last row.
-fn log_end(text: &[u8]) -> RowAnswer
-    ensures { λ r. ⌜ rowMeans r .says ≡ logSays (now (text .entry)) ⌝ }
-{
-    let mut trace = [0u32; 64];
-    let mut cursor = logfile::start();
-    let mut row: u32 = 1;
-    while row <= LOG_ROWS {
-        let read = next_row(text, cursor, &mut trace);
-        let answer = read.answer;
-        let RowAnswer::Row {
-            sessions: _,
-            length: _,
-        } = answer
-        else {
-            return answer;
-        };
-        cursor = read.cursor;
-        row += 1;
-    }
-    let last = next_row(text, cursor, &mut trace);
-    last.answer
 }
 
 // Replays the rows of a log and writes their lines. The net's arrays are lent to each replay.
@@ -101,8 +104,8 @@ fn write_rows(net: Net, text: &[u8], out: &mut [u8], at: usize) -> usize
 {
     let start = net.start;
     let end = net.end;
-    let mut trace = [0u32; 64];
-    let mut bindings = [0u32; 192];
+    let mut trace = [0u32; POSITIONS];
+    let mut bindings = [0u32; SEQUENCE_WORDS];
     let mut cursor = logfile::start();
     let mut p = at;
     let mut row: u32 = 1;
@@ -112,7 +115,7 @@ fn write_rows(net: Net, text: &[u8], out: &mut [u8], at: usize) -> usize
         let RowAnswer::Row { sessions, length } = given else {
             return p;
         };
-        let answer = replay_lent(
+        let outcome = replay_lent(
             start,
             end,
             &net.inputs,
@@ -123,7 +126,7 @@ fn write_rows(net: Net, text: &[u8], out: &mut [u8], at: usize) -> usize
             ROW_BUDGET,
             &mut bindings,
         );
-        p = write_row(out, p, row, sessions, answer);
+        p = write_row(out, p, row, sessions, outcome);
         cursor = read.cursor;
         row += 1;
     }

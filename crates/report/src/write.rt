@@ -1,7 +1,7 @@
 // The lines of a report, each written from an index on into a buffer with room for it. Each function returns the index
 // after its line.
 
-use search::ReplayAnswer;
+use search::Outcome;
 use text::bytes::write_bytes;
 use text::decimal::write_number;
 ghost use mathlib.Core.List.{_∷_, [], _++_};
@@ -10,7 +10,7 @@ ghost use lib.ListN.{length};
 ghost use Rattle.text.specs.Inner.{Wrote};
 ghost use Rattle.text.specs.Decimal.{printNumber};
 ghost use Rattle.text.specs.Lines.{cr, lf};
-ghost use Rattle.search.specs.Replay.{replayMeans};
+ghost use Rattle.search.specs.Backtrack.{outcomeMeans};
 ghost use Rattle.report.specs.Report.{refusalText, reportLine};
 
 // Writes the line of a refusal at the buffer's front, for a file's word.
@@ -25,23 +25,18 @@ pub fn write_refusal(out: &mut [u8], file: &[u8], number: u32, line: u32) -> usi
     write_last(out, p, b",", line as u64)
 }
 
-// Writes the line of row `row`, which has these sessions and whose replay gave this answer.
-pub fn write_row(out: &mut [u8], at: usize, row: u32, sessions: u32, answer: ReplayAnswer) -> usize
-    requires { ⌜ at + length (reportLine row sessions (replayMeans answer)) ≤ length (now out) ⌝ }
-    ensures { λ r. ⌜ Wrote (now (out .entry)) at (reportLine row sessions (replayMeans answer)) (now (out .exit)) r ⌝ }
+// Writes the line of row `row`, which has these sessions and whose search had this outcome.
+pub fn write_row(out: &mut [u8], at: usize, row: u32, sessions: u32, outcome: Outcome) -> usize
+    requires { ⌜ at + length (reportLine row sessions (outcomeMeans outcome)) ≤ length (now out) ⌝ }
+    ensures { λ r. ⌜ Wrote (now (out .entry)) at (reportLine row sessions (outcomeMeans outcome)) (now (out .exit)) r ⌝ }
 {
     let mut p = write_number(out, at, row as u64);
     p = write_bytes(out, p, b",");
     p = write_number(out, p, sessions as u64);
-    match answer {
-        ReplayAnswer::Found { trials } => write_last(out, p, b",found,", trials),
-        ReplayAnswer::None { trials } => write_last(out, p, b",none,", trials),
-        ReplayAnswer::Spent { trials } => write_last(out, p, b",spent,", trials),
-        // A net that was checked refuses no row of a log that was read.
-        ReplayAnswer::Refused {
-            number: _,
-            place: _,
-        } => write_last(out, p, b",,", 0),
+    match outcome {
+        Outcome::Found { trials } => write_last(out, p, b",found,", trials),
+        Outcome::Failed { trials } => write_last(out, p, b",none,", trials),
+        Outcome::Spent { trials } => write_last(out, p, b",spent,", trials),
     }
 }
 

@@ -47,7 +47,7 @@ pub fn replay(net: Net, trace: &[u32], budget: u64, out: &mut [u32]) -> ReplayAn
             place: u32::trailing_zeros(lost),
         };
     }
-    replay_checked(net, trace, budget, out)
+    answered(replay_checked(net, trace, budget, out))
 }
 
 // Whether a trace of n entries isn't too long, and a buffer of `room` words has three for each position.
@@ -60,8 +60,8 @@ fn has_room(n: usize, room: usize) -> bool
     3 * n <= room
 }
 
-// The replay of a trace in a net that has been checked.
-fn replay_checked(net: Net, trace: &[u32], budget: u64, out: &mut [u32]) -> ReplayAnswer
+// The replay of a trace in a net that has been checked, which refuses none.
+fn replay_checked(net: Net, trace: &[u32], budget: u64, out: &mut [u32]) -> Outcome
     requires { ⌜ Sides (net .inputs) (net .«input_len») × Sides (net .outputs) (net .«output_len») ⌝ }
     requires { ⌜ TraceWithRoom (now trace) (length (now out)) ⌝ }
     ensures { λ r. ⌜ CheckedDone net (now (trace .entry)) budget r (now (out .entry)) (now (out .exit)) ⌝ }
@@ -92,16 +92,16 @@ pub fn replay_lent<'a>(
     trace: &[u32],
     budget: u64,
     out: &mut [u32],
-) -> ReplayAnswer
+) -> Outcome
     requires { ⌜ Sides (now inputs) (now «input_len») × Sides (now outputs) (now «output_len») ⌝ }
     requires { ⌜ TraceWithRoom (now trace) (length (now out)) ⌝ }
     ensures { λ r. ⌜ CheckedDone (netOf start end (now (inputs .entry)) (now («input_len» .entry)) (now (outputs .entry)) (now («output_len» .entry))) (now (trace .entry)) budget r (now (out .entry)) (now (out .exit)) ⌝ }
 {
     if !trace::is_shaped(trace, 1, trace.len(), start, end) {
-        return ReplayAnswer::None { trials: 0 };
+        return Outcome::Failed { trials: 0 };
     }
     let mut due = [0u8; 1024];
-    let outcome = backtrack::search_inputs(
+    backtrack::search_inputs(
         inputs,
         input_len,
         outputs,
@@ -112,8 +112,7 @@ pub fn replay_lent<'a>(
         0,
         &mut due,
         out,
-    );
-    answered(outcome)
+    )
 }
 
 // What the search's outcome is as an answer.

@@ -8,7 +8,7 @@ use Rattle.net.specs.Refusals.{Says, outside-limits}
 use Rattle.logfile.specs.LogFile.{rowMeans}
 use Rattle.report.specs.Report.{logWord}
 use Rattle.report.proofs.TextLaws.{refusal-short}
-use Rattle.report.proofs.ReportLaws.{not-refused, log-long, log-refused, log-read, rows-room}
+use Rattle.report.proofs.ReportLaws.{not-refused, row-past-all, log-long, log-refused, log-read, rows-room}
 use Rattle.report.proofs.report_log.Statement.{statement}
 use Rattle.report.proofs.report_log.Tie as tie
 
@@ -26,8 +26,17 @@ returns c =
     let s = c .before .before .before .before .before .before .before .before .args in
     rw (log-long (s .net) (now (s .text)) (search needs)) (c .before .before .write-refusal .ensures)
 
-log-end-requires : tie.Need-log-end-requires
-log-end-requires c κs = search needs
+cast-read-row : tie.Need-cast-read-row
+cast-read-row c = search needs
+
+add-read-row : tie.Need-add-read-row
+add-read-row c = search needs
+
+slice-aggregate-read-row : tie.Need-slice-aggregate-read-row
+slice-aggregate-read-row c = search needs
+
+read-row-requires : tie.Need-read-row-requires
+read-row-requires c κs = search needs
 
 enum-known-answer : tie.Need-enum-known-answer
 enum-known-answer c = search needs
@@ -43,9 +52,10 @@ same-length-2 c = search needs
 
 returns-2 : tie.Need-returns-2
 returns-2 c =
-    let s = c .before .before .before .before .before .before .before .before .before .before .before .before .args in
+    let s = c .before .before .before .before .before .before .before .before .before .before .before .before .before .before .args in
     let k = c .before .before .before .before .before .before .answer .given in
-    rw (log-refused (s .net) (now (s .text)) (search needs) (k .0 .0) (k .0 .1 .0) (sym (c .before .before .before .before .before .before .before .before .log-end .ensures) ∙ ap (λ a. rowMeans a .says) (k .1))) (c .before .before .write-refusal2 .ensures)
+    let a = c .before .before .before .before .before .before .before .before .before .read-row in
+    rw (log-refused (s .net) (now (s .text)) (search needs) (k .0 .0) (k .0 .1 .0) (sym (row-past-all (now (s .text)) (a .result) (a .ensures .says)) ∙ ap (λ a. rowMeans a .says) (k .1))) (c .before .before .write-refusal2 .ensures)
 
 slice-aggregate-write-bytes : tie.Need-slice-aggregate-write-bytes
 slice-aggregate-write-bytes c = search needs
@@ -54,16 +64,16 @@ write-bytes-requires : tie.Need-write-bytes-requires
 write-bytes-requires c κs = search needs
 
 write-rows-requires : tie.Need-write-rows-requires
-write-rows-requires c κs = let s = c .before .before .before .before .before .before .before .before .before .before .before .args in (c .before .before .before .before .before .before .before .before .before .before .before .pre .0, omega (arith, rows-room (s .net) (now (s .text))))
+write-rows-requires c κs = let s = c .before .before .before .before .before .before .before .before .before .before .before .before .before .args in (c .before .before .before .before .before .before .before .before .before .before .before .before .before .pre .0, omega (arith, rows-room (s .net) (now (s .text))))
 
 same-length-3 : tie.Need-same-length-3
 same-length-3 c = search needs
 
 returns-3 : tie.Need-returns-3
 returns-3 c =
-    let s = c .before .before .before .before .before .before .before .before .before .before .before .before .before .before .args in
-    let a = c .before .before .before .before .before .before .before .before .before .before .log-end in
-    rw (log-read (s .net) (now (s .text)) (search needs) (ap (λ (y : Says). y .ok) (sym (a .ensures)) ∙ not-refused (a .result) (c .before .before .before .before .before .before .before .before .before .match .keys2))) (wrote-append (c .before .before .before .before .before .before .write-bytes .ensures) (c .before .before .write-rows .ensures))
+    let s = c .before .before .before .before .before .before .before .before .before .before .before .before .before .before .before .before .args in
+    let a = c .before .before .before .before .before .before .before .before .before .before .before .read-row in
+    rw (log-read (s .net) (now (s .text)) (search needs) (ap (λ (y : Says). y .ok) (sym (row-past-all (now (s .text)) (a .result) (a .ensures .says))) ∙ not-refused (a .result) (c .before .before .before .before .before .before .before .before .before .match .keys2))) (wrote-append (c .before .before .before .before .before .before .write-bytes .ensures) (c .before .before .write-rows .ensures))
 
 pub report-log-spec : {M : Type 1} → statement M
 report-log-spec =
@@ -73,7 +83,10 @@ report-log-spec =
     write-refusal-requires
     same-length
     returns
-    log-end-requires
+    cast-read-row
+    add-read-row
+    slice-aggregate-read-row
+    read-row-requires
     enum-known-answer
     slice-aggregate-write-refusal-2
     write-refusal-requires-2

@@ -11,7 +11,7 @@ use Rattle.text.proofs.StoreLaws.{Storing, storing-start, storing-room, storing
 use Rattle.net.specs.declared.Side.the-variants.{Input, Output}
 use Rattle.net.proofs.OrderlyLaws.{orderly-arrays}
 use Rattle.logfile.specs.Limits.{logRows}
-use Rattle.search.specs.Replay.{replayMeans}
+use Rattle.search.specs.Backtrack.{outcomeMeans}
 use Rattle.report.specs.Report.{reportLine, rowsText}
 use Rattle.report.proofs.AnswerLaws.{not-row, front-is, row-with-room}
 use Rattle.report.proofs.TextLaws.{rows-done, rows-none}
@@ -97,7 +97,7 @@ write-row-requires c κs =
     let g = standing-row (now (s .text)) (l .row) (l .cursor) (l .trace) (l .inv .0) (x .result) (x .last .1 .1 .0) (x .ensures) (k .0 .0) (k .0 .1 .0) (k .1) in
     let a = c .before .before .replay-lent in
     let e = row-line (s .t1) (now (s .text)) (l .row) (k .0 .0) (k .0 .1 .0) (l .trace) (x .last .1 .1 .0) g (omega (arith, c .before .before .before .before .before .before .before .before .before .before .before .before .before .before .before .before .loop-test .taken)) (a .result) (l .bindings) (a .last .1 .1 .1 .1 .1 .1 .1 .1 .0) (a .ensures) in
-    storing-room (now (s .out)) (s .at) (rowsText (s .t1) (now (s .text)) logRows 1) (l .out) (l .p) (rowsText (s .t1) (now (s .text)) (logRows + 1 - l .row) (l .row)) (l .inv .2) (reportLine (l .row) (k .0 .0) (replayMeans (a .result))) (rowsText (s .t1) (now (s .text)) (logRows + 1 - (l .row + 1)) (l .row + 1)) e
+    storing-room (now (s .out)) (s .at) (rowsText (s .t1) (now (s .text)) logRows 1) (l .out) (l .p) (rowsText (s .t1) (now (s .text)) (logRows + 1 - l .row) (l .row)) (l .inv .2) (reportLine (l .row) (k .0 .0) (outcomeMeans (a .result))) (rowsText (s .t1) (now (s .text)) (logRows + 1 - (l .row + 1)) (l .row + 1)) e
 
 add-row : tie.Need-add-row Inv-loop μ-loop
 add-row c = search needs
@@ -115,7 +115,7 @@ loop-again c =
     let a = c .before .before .before .before .before .before .replay-lent in
     let e = row-line (s .t1) (now (s .text)) (l .row) (k .0 .0) (k .0 .1 .0) (l .trace) (x .last .1 .1 .0) g (omega (arith, c .before .before .before .before .before .before .before .before .before .before .before .before .before .before .before .before .before .before .before .before .loop-test .taken)) (a .result) (l .bindings) (a .last .1 .1 .1 .1 .1 .1 .1 .1 .0) (a .ensures) in
     let w = c .before .before .before .write-row in
-    (standing-more (now (s .text)) (l .row) (l .cursor) (l .trace) (l .inv .0) (x .result) (x .last .1 .1 .0) (x .ensures) (omega (arith, c .before .before .before .before .before .before .before .before .before .before .before .before .before .before .before .before .before .before .before .before .loop-test .taken)) (k .0 .0) (k .0 .1 .0) (k .1), a .kept .1 .1 .1 .1 .1 .1 .1 .1 .0 ∙ l .inv .1, storing-more (now (s .out)) (s .at) (rowsText (s .t1) (now (s .text)) logRows 1) (l .out) (l .p) (rowsText (s .t1) (now (s .text)) (logRows + 1 - l .row) (l .row)) (l .inv .2) (reportLine (l .row) (k .0 .0) (replayMeans (a .result))) (rowsText (s .t1) (now (s .text)) (logRows + 1 - (l .row + 1)) (l .row + 1)) (w .last .0) (w .result) e (w .ensures))
+    (standing-more (now (s .text)) (l .row) (l .cursor) (l .trace) (l .inv .0) (x .result) (x .last .1 .1 .0) (x .ensures) (omega (arith, c .before .before .before .before .before .before .before .before .before .before .before .before .before .before .before .before .before .before .before .before .loop-test .taken)) (k .0 .0) (k .0 .1 .0) (k .1), a .kept .1 .1 .1 .1 .1 .1 .1 .1 .0 ∙ l .inv .1, storing-more (now (s .out)) (s .at) (rowsText (s .t1) (now (s .text)) logRows 1) (l .out) (l .p) (rowsText (s .t1) (now (s .text)) (logRows + 1 - l .row) (l .row)) (l .inv .2) (reportLine (l .row) (k .0 .0) (outcomeMeans (a .result))) (rowsText (s .t1) (now (s .text)) (logRows + 1 - (l .row + 1)) (l .row + 1)) (w .last .0) (w .result) e (w .ensures))
 
 same-length-2 : tie.Need-same-length-2 Inv-loop μ-loop
 same-length-2 c = c .before .loop .inv .2 .same

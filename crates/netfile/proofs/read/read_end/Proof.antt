@@ -26,14 +26,14 @@ end-line-requires c κs = search needs
 enum-known-line : tie.Need-enum-known-line
 enum-known-line c = search needs
 
-refused-requires : tie.Need-refused-requires
-refused-requires c κs = search needs
+refused-reading-requires : tie.Need-refused-reading-requires
+refused-reading-requires c κs = search needs
 
 returns : tie.Need-returns
 returns c =
     let a = c .before .before .before .before .before .before .before .before .before .args in
     let f = c .before .before .before .before .before .before .before .line-end in
-    rw (end-line (now (a .text)) (a .i) (f .result) (nextLine (now (a .text)) (f .result)) (f .ensures .exact) refl (search needs) (a .start), sym (c .before .before .before .before .before .end-line .ensures) ∙ c .before .before .before .line .given .1, eq-eqb _ _ (c .before .if1 .taken)) (c .refused .ensures)
+    rw (end-line (now (a .text)) (a .i) (f .result) (nextLine (now (a .text)) (f .result)) (f .ensures .exact) refl (search needs) (a .start), sym (c .before .before .before .before .before .end-line .ensures) ∙ c .before .before .before .line .given .1, eq-eqb _ _ (c .before .if1 .taken)) (c .refused-reading .ensures)
 
 fresh-requires : tie.Need-fresh-requires
 fresh-requires c κs = search needs
@@ -47,8 +47,8 @@ read-rows-requires c κs = (search needs, search needs, rw (c .before .fresh .en
 enum-known-line-2 : tie.Need-enum-known-line-2
 enum-known-line-2 c = search needs
 
-refused-requires-2 : tie.Need-refused-requires-2
-refused-requires-2 c κs = search needs
+refused-reading-requires-2 : tie.Need-refused-reading-requires-2
+refused-reading-requires-2 c κs = search needs
 
 returns-2 : tie.Need-returns-2
 returns-2 c =
@@ -64,7 +64,7 @@ returns-3 : tie.Need-returns-3
 returns-3 c =
     let a = c .before .before .before .before .before .before .before .before .args in
     let f = c .before .before .before .before .before .before .line-end in
-    rw (end-line (now (a .text)) (a .i) (f .result) (nextLine (now (a .text)) (f .result)) (f .ensures .exact) refl (search needs) (a .start), sym (c .before .before .before .before .end-line .ensures) ∙ c .before .before .line2 .given .1) (c .refused2 .ensures)
+    rw (end-line (now (a .text)) (a .i) (f .result) (nextLine (now (a .text)) (f .result)) (f .ensures .exact) refl (search needs) (a .start), sym (c .before .before .before .before .end-line .ensures) ∙ c .before .before .line2 .given .1) (c .refused-reading2 .ensures)
 
 pub read-end-spec : {M : Type 1} → statement M
 read-end-spec =
@@ -74,12 +74,12 @@ read-end-spec =
     slice-aggregate-end-line
     end-line-requires
     enum-known-line
-    refused-requires
+    refused-reading-requires
     returns
     fresh-requires
     next-line-requires
     read-rows-requires
     enum-known-line-2
-    refused-requires-2
+    refused-reading-requires-2
     returns-2
     returns-3)

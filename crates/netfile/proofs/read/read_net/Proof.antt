@@ -8,11 +8,11 @@ use Rattle.netfile.proofs.FileLaws.{header-line, read-long, read-short}
 use Rattle.netfile.proofs.read.read_net.Statement.{statement}
 use Rattle.netfile.proofs.read.read_net.Tie as tie
 
-refused-requires : tie.Need-refused-requires
-refused-requires c κs = search needs
+refused-reading-requires : tie.Need-refused-reading-requires
+refused-reading-requires c κs = search needs
 
 returns : tie.Need-returns
-returns c = rw (read-long (now (c .before .before .before .args .text)) (c .before .if1 .taken)) (c .refused .ensures)
+returns c = rw (read-long (now (c .before .before .before .args .text)) (c .before .if1 .taken)) (c .refused-reading .ensures)
 
 line-end-requires : tie.Need-line-end-requires
 line-end-requires c κs = search needs
@@ -23,14 +23,14 @@ slice-aggregate-same-bytes c = search needs
 same-bytes-requires : tie.Need-same-bytes-requires
 same-bytes-requires c κs = search needs
 
-refused-requires-2 : tie.Need-refused-requires-2
-refused-requires-2 c κs = search needs
+refused-reading-requires-2 : tie.Need-refused-reading-requires-2
+refused-reading-requires-2 c κs = search needs
 
 returns-2 : tie.Need-returns-2
 returns-2 c =
     let a = c .before .before .before .before .before .before .before .args in
     let f = c .before .before .before .before .line-end in
-    rw (read-short (now (a .text)) (c .before .before .before .before .before .if1 .left), header-line (now (a .text)) 0 (f .result) (nextLine (now (a .text)) (f .result)) (f .ensures .exact) refl (search needs), sym (c .before .before .same-bytes .ensures) ∙ not-true _ (c .before .if2 .taken)) (c .refused2 .ensures)
+    rw (read-short (now (a .text)) (c .before .before .before .before .before .if1 .left), header-line (now (a .text)) 0 (f .result) (nextLine (now (a .text)) (f .result)) (f .ensures .exact) refl (search needs), sym (c .before .before .same-bytes .ensures) ∙ not-true _ (c .before .if2 .taken)) (c .refused-reading2 .ensures)
 
 next-line-requires : tie.Need-next-line-requires
 next-line-requires c κs = search needs
@@ -49,12 +49,12 @@ pub read-net-spec : {M : Type 1} → statement M
 read-net-spec =
     tie.close
     (tie.spec
-    refused-requires
+    refused-reading-requires
     returns
     line-end-requires
     slice-aggregate-same-bytes
     same-bytes-requires
-    refused-requires-2
+    refused-reading-requires-2
     returns-2
     next-line-requires
     read-start-requires

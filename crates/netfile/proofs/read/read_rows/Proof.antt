@@ -42,8 +42,8 @@ put-row-requires c κs = (c .before .before .before .before .before .before .bef
 enum-known-put : tie.Need-enum-known-put Inv-loop μ-loop
 enum-known-put c = search needs
 
-refused-requires : tie.Need-refused-requires Inv-loop μ-loop
-refused-requires c κs = search needs
+refused-reading-requires : tie.Need-refused-reading-requires Inv-loop μ-loop
+refused-reading-requires c κs = search needs
 
 returns : tie.Need-returns Inv-loop μ-loop
 returns c =
@@ -54,7 +54,7 @@ returns c =
     let row = c .before .before .before .before .before .before .before .before .before .row-line in
     let put = c .before .before .put .given in
     rw (l .inv .3, rows-bad (now (a .text)) (l .i) (e .result) (nextLine (now (a .text)) (e .result)) (e .ensures .exact) refl (search needs) (l .line) (netOf (net .start) (net .end) (l .inputs) (l .input-len) (l .outputs) (l .output-len)) (row .result) (row .ensures) (put .0 .0) (sym (c .before .before .before .before .put-row .ensures .says) ∙ put .1))
-    (c .refused .ensures)
+    (c .refused-reading .ensures)
 
 enum-told : tie.Need-enum-told Inv-loop μ-loop
 enum-told c = search needs
@@ -100,7 +100,7 @@ read-rows-spec =
     row-line-requires
     put-row-requires
     enum-known-put
-    refused-requires
+    refused-reading-requires
     returns
     enum-told
     next-line-requires

@@ -29,8 +29,8 @@ read-end-requires c κs = (search needs, search needs, end-is _ _ _ (sym (c .bef
 enum-known-line-2 : tie.Need-enum-known-line-2
 enum-known-line-2 c = search needs
 
-refused-requires : tie.Need-refused-requires
-refused-requires c κs = search needs
+refused-reading-requires : tie.Need-refused-reading-requires
+refused-reading-requires c κs = search needs
 
 returns : tie.Need-returns
 returns c =
@@ -43,7 +43,7 @@ returns-2 : tie.Need-returns-2
 returns-2 c =
     let a = c .before .before .before .before .before .before .before .before .args in
     let f = c .before .before .before .before .before .before .line-end in
-    rw (start-line (now (a .text)) (a .i) (f .result) (nextLine (now (a .text)) (f .result)) (f .ensures .exact) refl (search needs), sym (c .before .before .before .before .end-line .ensures) ∙ c .before .before .line2 .given .1) (c .refused .ensures)
+    rw (start-line (now (a .text)) (a .i) (f .result) (nextLine (now (a .text)) (f .result)) (f .ensures .exact) refl (search needs), sym (c .before .before .before .before .end-line .ensures) ∙ c .before .before .line2 .given .1) (c .refused-reading .ensures)
 
 pub read-start-spec : {M : Type 1} → statement M
 read-start-spec =
@@ -56,6 +56,6 @@ read-start-spec =
     next-line-requires
     read-end-requires
     enum-known-line-2
-    refused-requires
+    refused-reading-requires
     returns
     returns-2)

@@ -21,17 +21,14 @@ returns c =
 search-inputs-requires : tie.Need-search-inputs-requires
 search-inputs-requires c κs = let s = c .before .before .before .before .before .before in (s .pre .0, (s .pre .1, (zero≤, zero≤, nothing-state)))
 
-answered-requires : tie.Need-answered-requires
-answered-requires c κs = search needs
-
 same-length : tie.Need-same-length
 same-length c = search needs
 
 returns-2 : tie.Need-returns-2
 returns-2 c =
-    let g = c .before .before .before .before .before .before .before .before .before .before .args in
+    let g = c .before .before .before .before .before .before .before .before .before .args in
     shaped-done (netOf (g .start) (g .end) (g .inputs .now) (g .input-len .now) (g .outputs .now) (g .output-len .now)) (g .trace .now)
-    (sym (c .before .before .before .before .before .before .before .is-shaped .ensures ∙ shaped-ones (g .start) (g .end) (g .trace .now)) ∙ not-false _ (c .before .before .before .before .before .before .if1 .left)) (c .answered .ensures) (c .before .before .before .search-inputs .ensures)
+    (sym (c .before .before .before .before .before .before .is-shaped .ensures ∙ shaped-ones (g .start) (g .end) (g .trace .now)) ∙ not-false _ (c .before .before .before .before .before .if1 .left)) (c .before .before .search-inputs .ensures)
 
 pub replay-lent-spec : {M : Type 1} → statement M
-replay-lent-spec = tie.close (tie.spec is-shaped-requires returns search-inputs-requires answered-requires same-length returns-2)
+replay-lent-spec = tie.close (tie.spec is-shaped-requires returns search-inputs-requires same-length returns-2)
