@@ -18,8 +18,8 @@ use obligations::POSITIONS;
 use search::replay_lent;
 use text::bytes::write_bytes;
 use walks::CheckAnswer;
-use write::write_row;
 pub use write::write_refusal;
+use write::write_row;
 ghost use mathlib.Core.Path.{_≡_};
 ghost use mathlib.Core.Bool.{true};
 ghost use Prim.Native.Nat.{_+_, _≤_};
@@ -67,8 +67,7 @@ pub fn read_checked(text: &[u8]) -> NetReading
     if let NetAnswer::Refused {
         number: _,
         place: _,
-    } = answer
-    {
+    } = answer {
         return read;
     }
     let checked = walks::check(read.net);
