@@ -1,8 +1,8 @@
 // What is to be written to standard output, gathered in a buffer that is written when it is full. `at` is how many bytes
 // stand in it; each function returns how many stand there after it.
 
-use libc::STDOUT_FILENO;
 use text::bytes::write_bytes;
+use text::decimal::write_number;
 ghost use Prim.Native.Nat.{_≤_};
 ghost use lib.ListN.{length};
 
@@ -18,7 +18,7 @@ pub fn append(out: &mut [u8], at: usize, bytes: &[u8]) -> usize
     if bytes.len() <= out.len() {
         return write_bytes(out, 0, bytes);
     }
-    io::write_all(STDOUT_FILENO, bytes);
+    files::print(bytes);
     0
 }
 
@@ -28,7 +28,7 @@ pub fn append_number(out: &mut [u8], at: usize, n: u64) -> usize
     ensures { λ r. ⌜ r ≤ length (now (out .exit)) ⌝ }
 {
     let mut digits = [0u8; 20];
-    let k = io::decimal(n, &mut digits);
+    let k = write_number(&mut digits, 0, n);
     let p = append(out, at, b" ");
     append(out, p, &digits[..k])
 }
@@ -52,5 +52,5 @@ pub fn append_words(out: &mut [u8], at: usize, words: &[u32]) -> usize
 pub fn flush(out: &[u8], at: usize)
     requires { ⌜ at ≤ length (now out) ⌝ }
 {
-    io::write_all(STDOUT_FILENO, &out[..at]);
+    files::print(&out[..at]);
 }

@@ -12,6 +12,9 @@ pub const REGISTERS: u32 = 4;
 // A record has this many words.
 const WORDS: u32 = 1090;
 
+// The words of all registers.
+pub const RECORDS: usize = 4360;
+
 const INPUT_LEN: usize = 2;
 
 const OUTPUT_LEN: usize = 34;
@@ -29,7 +32,7 @@ fn place(r: u32) -> usize
 }
 
 // The record in register r.
-pub fn load(records: &[u32; 4360], r: u32) -> Net
+pub fn load(records: &[u32; RECORDS], r: u32) -> Net
     requires { ⌜ r < 4 ⌝ }
 {
     let at = place(r);
@@ -52,7 +55,7 @@ pub fn load(records: &[u32; 4360], r: u32) -> Net
 }
 
 // Register r becomes a record.
-pub fn store(records: &mut [u32; 4360], r: u32, net: Net)
+pub fn store(records: &mut [u32; RECORDS], r: u32, net: Net)
     requires { ⌜ r < 4 ⌝ }
 {
     let at = place(r);
@@ -65,7 +68,7 @@ pub fn store(records: &mut [u32; 4360], r: u32, net: Net)
 }
 
 // Each register becomes the fresh net of 0 and 1.
-pub fn clear(records: &mut [u32; 4360]) {
+pub fn clear(records: &mut [u32; RECORDS]) {
     let made = net::fresh(0, 1);
     store(records, 0, made.net);
     store(records, 1, made.net);
@@ -74,7 +77,7 @@ pub fn clear(records: &mut [u32; 4360]) {
 }
 
 // poke R I V: word I of register R becomes V.
-pub fn poke(records: &mut [u32; 4360], r: u32, args: &[u32]) -> Answer
+pub fn poke(records: &mut [u32; RECORDS], r: u32, args: &[u32]) -> Answer
     requires { ⌜ r < 4 ⌝ }
 {
     if args.len() != 2 {
@@ -89,7 +92,7 @@ pub fn poke(records: &mut [u32; 4360], r: u32, args: &[u32]) -> Answer
 }
 
 // peek R I N: N words of register R from I on.
-pub fn peek(records: &[u32; 4360], r: u32, args: &[u32], words: &mut [u32]) -> Answer
+pub fn peek(records: &[u32; RECORDS], r: u32, args: &[u32], words: &mut [u32]) -> Answer
     requires { ⌜ r < 4 ⌝ }
 {
     if args.len() != 2 {
@@ -112,7 +115,7 @@ pub fn peek(records: &[u32; 4360], r: u32, args: &[u32], words: &mut [u32]) -> A
 }
 
 // copy R S: register R becomes register S.
-pub fn copy(records: &mut [u32; 4360], r: u32, args: &[u32]) -> Answer
+pub fn copy(records: &mut [u32; RECORDS], r: u32, args: &[u32]) -> Answer
     requires { ⌜ r < 4 ⌝ }
 {
     if args.len() != 1 {
@@ -128,7 +131,7 @@ pub fn copy(records: &mut [u32; 4360], r: u32, args: &[u32]) -> Answer
 }
 
 // same R S: whether two registers are equal in every word.
-pub fn same(records: &[u32; 4360], r: u32, args: &[u32]) -> Answer
+pub fn same(records: &[u32; RECORDS], r: u32, args: &[u32]) -> Answer
     requires { ⌜ r < 4 ⌝ }
 {
     if args.len() != 1 {
@@ -145,7 +148,7 @@ pub fn same(records: &[u32; 4360], r: u32, args: &[u32]) -> Answer
 }
 
 // Whether the records at two places are equal in every word.
-fn are_same(records: &[u32; 4360], p: usize, q: usize) -> bool
+fn are_same(records: &[u32; RECORDS], p: usize, q: usize) -> bool
     requires { ⌜ (p + 1090 ≤ 4360) × (q + 1090 ≤ 4360) ⌝ }
 {
     let mut k = 0;

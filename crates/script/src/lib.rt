@@ -9,16 +9,18 @@ mod net_calls;
 mod sequence_calls;
 mod table_calls;
 
-use libc::STDIN_FILENO;
-use libc::STDOUT_FILENO;
+use files::print;
+use files::read_input;
 use line::run_line;
 use machine::answer::Answer;
 use machine::answer::write_answer;
 use machine::buffers::byte_room;
+use machine::buffers::out_room;
 use machine::buffers::script_room;
 use machine::buffers::text_room;
 use machine::buffers::word_room;
 use machine::output::flush;
+use machine::registers::RECORDS;
 use machine::registers::clear;
 use text::bytes::find_byte;
 ghost use Prim.Native.Nat.{_≤_, _<_};
@@ -30,15 +32,15 @@ pub const SCRIPT_BYTES: usize = 4194304;
 // Runs the script on standard input and writes its answers to standard output.
 pub fn run_script() {
     let mut script = script_room();
-    let n = io::read_full(STDIN_FILENO, &mut script);
+    let n = read_input(&mut script);
     if SCRIPT_BYTES < n {
-        io::write_all(STDOUT_FILENO, b"?\n");
+        print(b"?\n");
         return;
     }
     let mut text = text_room();
     let mut words = word_room();
     let mut bytes = byte_room();
-    let mut out = io::large_buffer();
+    let mut out = out_room();
     run_lines(&script[..n], &mut text, &mut words, &mut bytes, &mut out);
 }
 
@@ -47,7 +49,7 @@ pub fn run_script() {
 fn run_lines(script: &[u8], text: &mut [u8], words: &mut [u32], bytes: &mut [u8], out: &mut [u8])
     requires { ⌜ (length (now script) ≤ 4194304) × (length (now text) ≤ 524289) ⌝ }
 {
-    let mut records = [0u32; 4360];
+    let mut records = [0u32; RECORDS];
     let mut text_len: usize = 0;
     let mut at: usize = 0;
     let mut i: usize = 0;

@@ -7,6 +7,7 @@ use machine::answer::Answer;
 use machine::numbers::read_numbers;
 use machine::numbers::words_from;
 use machine::registers;
+use machine::registers::RECORDS;
 use machine::registers::REGISTERS;
 use text::bytes::count_byte;
 use text::bytes::find_byte;
@@ -20,7 +21,7 @@ pub fn run_line(
     script: &[u8],
     i: usize,
     e: usize,
-    records: &mut [u32; 4360],
+    records: &mut [u32; RECORDS],
     text: &mut [u8],
     text_len: &mut usize,
     words: &mut [u32],
@@ -66,7 +67,7 @@ fn run_command(
     i: usize,
     w: usize,
     numbers: &[u64],
-    records: &mut [u32; 4360],
+    records: &mut [u32; RECORDS],
     text: &[u8],
     words: &mut [u32],
 ) -> Answer
@@ -105,7 +106,7 @@ fn run_on_record(
     script: &[u8],
     i: usize,
     w: usize,
-    records: &mut [u32; 4360],
+    records: &mut [u32; RECORDS],
     r: u32,
     args: &[u32],
     words: &mut [u32],
@@ -132,7 +133,7 @@ fn run_on_net(
     script: &[u8],
     i: usize,
     w: usize,
-    records: &mut [u32; 4360],
+    records: &mut [u32; RECORDS],
     r: u32,
     args: &[u32],
 ) -> Answer
@@ -158,7 +159,7 @@ fn run_on_sequence(
     script: &[u8],
     i: usize,
     w: usize,
-    records: &mut [u32; 4360],
+    records: &mut [u32; RECORDS],
     r: u32,
     args: &[u32],
 ) -> Answer

@@ -2,6 +2,7 @@
 
 use machine::answer::Answer;
 use machine::answer::refused;
+use machine::registers::RECORDS;
 use machine::registers::REGISTERS;
 use machine::registers::load;
 use machine::registers::store;
@@ -13,7 +14,7 @@ use walks::CheckAnswer;
 ghost use Prim.Native.Nat.{_<_};
 
 // fresh R S E: register R becomes what fresh of S and E returns.
-pub fn fresh(records: &mut [u32; 4360], r: u32, args: &[u32]) -> Answer
+pub fn fresh(records: &mut [u32; RECORDS], r: u32, args: &[u32]) -> Answer
     requires { ⌜ r < 4 ⌝ }
 {
     if args.len() != 2 {
@@ -29,7 +30,7 @@ pub fn fresh(records: &mut [u32; 4360], r: u32, args: &[u32]) -> Answer
 }
 
 // put R SIDE A SET: put on register R.
-pub fn put(records: &mut [u32; 4360], r: u32, args: &[u32]) -> Answer
+pub fn put(records: &mut [u32; RECORDS], r: u32, args: &[u32]) -> Answer
     requires { ⌜ r < 4 ⌝ }
 {
     if args.len() != 3 {
@@ -45,7 +46,7 @@ pub fn put(records: &mut [u32; 4360], r: u32, args: &[u32]) -> Answer
 }
 
 // Puts a set on an activity's side in register r.
-fn put_on(records: &mut [u32; 4360], r: u32, side: Side, a: u32, set: u32) -> Answer
+fn put_on(records: &mut [u32; RECORDS], r: u32, side: Side, a: u32, set: u32) -> Answer
     requires { ⌜ r < 4 ⌝ }
 {
     let done = net::put(load(records, r), side, a, set);
@@ -59,7 +60,7 @@ fn put_on(records: &mut [u32; 4360], r: u32, side: Side, a: u32, set: u32) -> An
 }
 
 // contained R S: is R contained in S.
-pub fn contained(records: &[u32; 4360], r: u32, args: &[u32]) -> Answer
+pub fn contained(records: &[u32; RECORDS], r: u32, args: &[u32]) -> Answer
     requires { ⌜ r < 4 ⌝ }
 {
     if args.len() != 1 {
@@ -78,7 +79,7 @@ pub fn contained(records: &[u32; 4360], r: u32, args: &[u32]) -> Answer
 }
 
 // check R: net check.
-pub fn check(records: &[u32; 4360], r: u32, args: &[u32]) -> Answer
+pub fn check(records: &[u32; RECORDS], r: u32, args: &[u32]) -> Answer
     requires { ⌜ r < 4 ⌝ }
 {
     if args.len() != 0 {

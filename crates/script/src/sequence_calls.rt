@@ -6,6 +6,7 @@ use machine::answer::refused;
 use machine::buffers::fill_words;
 use machine::buffers::words_untouched;
 use machine::numbers::words_from;
+use machine::registers::RECORDS;
 use machine::registers::load;
 use machine::registers::store;
 use net::Net;
@@ -17,7 +18,7 @@ ghost use Prim.Native.Nat.{_≤_, _<_};
 ghost use lib.ListN.{length};
 
 // judge R W W ..: judges the sequence of these words.
-pub fn judge(records: &[u32; 4360], r: u32, words: &[u32]) -> Answer
+pub fn judge(records: &[u32; RECORDS], r: u32, words: &[u32]) -> Answer
     requires { ⌜ r < 4 ⌝ }
 {
     let answer = peak(records, r, words);
@@ -28,7 +29,7 @@ pub fn judge(records: &[u32; 4360], r: u32, words: &[u32]) -> Answer
 }
 
 // peak R W W ..: the same; the answer has the peak.
-pub fn peak(records: &[u32; 4360], r: u32, words: &[u32]) -> Answer
+pub fn peak(records: &[u32; RECORDS], r: u32, words: &[u32]) -> Answer
     requires { ⌜ r < 4 ⌝ }
 {
     let answer = sequences::judge(load(records, r), words);
@@ -39,7 +40,7 @@ pub fn peak(records: &[u32; 4360], r: u32, words: &[u32]) -> Answer
 }
 
 // learn R W W ..: learns the sequence; R becomes what it returns.
-pub fn learn(records: &mut [u32; 4360], r: u32, words: &[u32]) -> Answer
+pub fn learn(records: &mut [u32; RECORDS], r: u32, words: &[u32]) -> Answer
     requires { ⌜ r < 4 ⌝ }
 {
     let done = sequences::learn(load(records, r), words);
@@ -47,7 +48,7 @@ pub fn learn(records: &mut [u32; 4360], r: u32, words: &[u32]) -> Answer
 }
 
 // follow R T T ..: follows the trace; R becomes what it returns.
-pub fn follow(records: &mut [u32; 4360], r: u32, trace: &[u32]) -> Answer
+pub fn follow(records: &mut [u32; RECORDS], r: u32, trace: &[u32]) -> Answer
     requires { ⌜ r < 4 ⌝ }
 {
     let done = sequences::follow(load(records, r), trace);
@@ -55,7 +56,7 @@ pub fn follow(records: &mut [u32; 4360], r: u32, trace: &[u32]) -> Answer
 }
 
 // Register r becomes the net that a learn or a follow returned.
-fn learned(records: &mut [u32; 4360], r: u32, done: LearnResult) -> Answer
+fn learned(records: &mut [u32; RECORDS], r: u32, done: LearnResult) -> Answer
     requires { ⌜ r < 4 ⌝ }
 {
     store(records, r, done.net);
@@ -67,7 +68,7 @@ fn learned(records: &mut [u32; 4360], r: u32, done: LearnResult) -> Answer
 }
 
 // replay R BUDGET N T T ..: replays the trace with a buffer of N words.
-pub fn replay(records: &[u32; 4360], r: u32, numbers: &[u64], words: &mut [u32]) -> Answer
+pub fn replay(records: &[u32; RECORDS], r: u32, numbers: &[u64], words: &mut [u32]) -> Answer
     requires { ⌜ r < 4 ⌝ }
 {
     if numbers.len() < 3 {

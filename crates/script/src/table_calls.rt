@@ -8,6 +8,7 @@ use machine::buffers::bytes_untouched;
 use machine::buffers::fill_bytes;
 use machine::buffers::fill_words;
 use machine::buffers::words_untouched;
+use machine::registers::RECORDS;
 use machine::registers::REGISTERS;
 use machine::registers::load;
 use machine::registers::store;
@@ -19,7 +20,7 @@ ghost use Prim.Native.Nat.{_≤_, _<_};
 ghost use lib.ListN.{length};
 
 // readnet R: reads the text as a net file; R becomes what it returns.
-pub fn readnet(records: &mut [u32; 4360], r: u32, args: &[u32], text: &[u8]) -> Answer
+pub fn readnet(records: &mut [u32; RECORDS], r: u32, args: &[u32], text: &[u8]) -> Answer
     requires { ⌜ r < 4 ⌝ }
 {
     if args.len() != 0 {
@@ -36,7 +37,7 @@ pub fn readnet(records: &mut [u32; 4360], r: u32, args: &[u32], text: &[u8]) -> 
 
 // writenet R N: writes R into a buffer of N bytes; if that isn't refused the text register becomes what was written.
 pub fn writenet(
-    records: &[u32; 4360],
+    records: &[u32; RECORDS],
     numbers: &[u64],
     text: &mut [u8],
     text_len: &mut usize,

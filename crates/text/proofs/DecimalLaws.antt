@@ -14,8 +14,9 @@ use lib.ListN.{length}
 use Rattle.obligations.proofs.BoolLaws.{and-left, and-right}
 use Rattle.obligations.proofs.SetLaws.{lt-or-le}
 use Rattle.text.specs.Bytes.{occurrences}
-use Rattle.text.specs.Decimal.{isDigit, allDigits, valueFrom, value, wellLed, isNumber, parseNumber, allNumbers, values, digit, decimal, printNumber}
+use Rattle.text.specs.Decimal.{isDigit, allDigits, valueFrom, value, wellLed, isNumber, parseNumber, parseWide, allNumbers, values, digit, decimal, printNumber}
 use Rattle.text.specs.declared.decimal.Number.the-variants.{Value, Refused}
+use Rattle.text.specs.declared.decimal.WideNumber.the-variants as wide
 use Rattle.text.proofs.DigitLaws.{value-grows, decimal-low, number-full, number-below}
 
 -- ---- what an answer says of its field
@@ -42,6 +43,23 @@ number-most limit s q = leb-true (value s) limit (and-right (allDigits s) (leb (
 
 pub parse-most : (limit : ℕ) (s : List ℕ) (k : ℕ) → parseNumber limit s ≡ Value k → k ≤ limit
 parse-most limit s k q = let v = number-value limit s k q in omega (arith, number-most limit s (v .0), v .1)
+
+-- a number of 32 bits is read as one of 64 that is within the limit
+pub wide-value : (limit : ℕ) (s : List ℕ) (k : ℕ) → parseWide limit s ≡ wide.Value k → (parseNumber limit s ≡ Value k) × (k ≤ limit)
+unfolding parseWide parseNumber
+wide-value limit s k = go (isNumber limit s) refl
+  where
+    go : (t : Bool) → isNumber limit s ≡ t → cond t (wide.Value (value s)) wide.Refused ≡ wide.Value k → (cond (isNumber limit s) (Value (value s)) Refused ≡ Value k) × (k ≤ limit)
+    go true h q = let e : value s ≡ k = cc in (rw h (ap Value e), omega (arith, number-most limit s h, e))
+    go false h q = let z : _≡_ {A = ℕ} 0 1 = cc in absurd (omega arith)
+
+pub wide-refused : (limit : ℕ) (s : List ℕ) → parseWide limit s ≡ wide.Refused → parseNumber limit s ≡ Refused
+unfolding parseWide parseNumber
+wide-refused limit s = go (isNumber limit s) refl
+  where
+    go : (t : Bool) → isNumber limit s ≡ t → cond t (wide.Value (value s)) wide.Refused ≡ wide.Refused → cond (isNumber limit s) (Value (value s)) Refused ≡ Refused
+    go true h q = let z : _≡_ {A = ℕ} 0 1 = cc in absurd (omega arith)
+    go false h q = rw h
 
 pub values-most : (limit : ℕ) (fs : List (List ℕ)) → allNumbers limit fs ≡ true → (k : ℕ) → List·Memᴰ k (values fs) → k ≤ limit
 values-most limit [] q k m = absurd (List·Memᴰ·not-nil m)

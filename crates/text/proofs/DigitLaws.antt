@@ -12,15 +12,15 @@ use lib.Dec.{leb, ltb}
 use lib.ListN.{length, getD, length-append}
 use lib.Seq.{slice, slice-empty}
 use Rattle.obligations.proofs.SetLaws.{lt-or-le}
-use Rattle.text.specs.Decimal.{isDigit, allDigits, valueFrom, isEmpty, wellLed, isNumber, parseNumber, digit, decimal, printNumber}
-use Rattle.text.specs.declared.decimal.Number.{Number}
-use Rattle.text.specs.declared.decimal.Number.the-variants.{Value, Refused}
+use Rattle.text.specs.Decimal.{isDigit, allDigits, valueFrom, isEmpty, wellLed, isNumber, parseWide, digit, decimal, printNumber}
+use Rattle.text.specs.declared.decimal.WideNumber.{WideNumber}
+use Rattle.text.specs.declared.decimal.WideNumber.the-variants.{Value, Refused}
 use Rattle.text.proofs.ByteLaws.{slice-step}
 
 -- ---- reading digit by digit
 
 -- digits that follow digits of value v, up to the first byte that decides
-abbrev pub digits : ℕ → ℕ → List ℕ → Number
+abbrev pub digits : ℕ → ℕ → List ℕ → WideNumber
 digits limit v [] = Value v
 digits limit v (b ∷ s) = cond (isDigit b) (cond (leb (v * 10 + (b - 48)) limit) (digits limit (v * 10 + (b - 48)) s) Refused) Refused
 
@@ -40,12 +40,12 @@ digits-early limit v (b ∷ s) h = go (isDigit b) refl (leb (v * 10 + (b - 48)) 
     go true p true q ih = rw (p, q) (ih (leb-true (v * 10 + (b - 48)) limit q))
     go true p false q ih = rw (p, q, lt-leb (valueFrom (v * 10 + (b - 48)) s) limit (omega (arith, leb-false (v * 10 + (b - 48)) limit q, value-grows (v * 10 + (b - 48)) s)), and-false (allDigits s))
 
-pub number-start : (limit : ℕ) (s : List ℕ) → wellLed s ≡ true → parseNumber limit s ≡ digits limit 0 s
-unfolding parseNumber isNumber
+pub number-start : (limit : ℕ) (s : List ℕ) → wellLed s ≡ true → parseWide limit s ≡ digits limit 0 s
+unfolding parseWide isNumber
 number-start limit s h = rw (h, digits-early limit 0 s (omega arith))
 
-pub number-ill-led : (limit : ℕ) (s : List ℕ) → wellLed s ≡ false → parseNumber limit s ≡ Refused
-unfolding parseNumber isNumber
+pub number-ill-led : (limit : ℕ) (s : List ℕ) → wellLed s ≡ false → parseWide limit s ≡ Refused
+unfolding parseWide isNumber
 number-ill-led limit s h = rw h
 
 -- what the byte at k decides, in a number that goes on to e
@@ -59,7 +59,7 @@ module _ (limit v : ℕ) (s : List ℕ) (k e : ℕ) (h : k < e) (t : e ≤ lengt
   pub digits-over : limit < v * 10 + (getD s k 0 - 48) → digits limit v (slice k e s) ≡ Refused
   digits-over l = rw (slice-step s k e h t, lt-leb (v * 10 + (getD s k 0 - 48)) limit l) (go (isDigit (getD s k 0)))
     where
-      go : (d : Bool) → cond {A = Number} d Refused Refused ≡ Refused
+      go : (d : Bool) → cond {A = WideNumber} d Refused Refused ≡ Refused
       go true = refl
       go false = refl
 

@@ -6,6 +6,8 @@ use mathlib.Core.List.{List, [], _∷_, _++_, map}
 use lib.Dec.{leb, ltb, eqb}
 use Rattle.text.specs.declared.decimal.Number.{Number}
 use Rattle.text.specs.declared.decimal.Number.the-variants.{Value, Refused}
+use Rattle.text.specs.declared.decimal.WideNumber.{WideNumber}
+use Rattle.text.specs.declared.decimal.WideNumber.the-variants as wide
 
 -- ---- reading
 
@@ -39,6 +41,10 @@ isNumber limit s = wellLed s && (allDigits s && leb (value s) limit)
 
 unfoldable pub parseNumber : ℕ → List ℕ → Number
 parseNumber limit s = cond (isNumber limit s) (Value (value s)) Refused
+
+-- the same as a number of 64 bits
+unfoldable pub parseWide : ℕ → List ℕ → WideNumber
+parseWide limit s = cond (isNumber limit s) (wide.Value (value s)) wide.Refused
 
 -- each field is a number that is at most the limit, and their values
 abbrev pub allNumbers : ℕ → List (List ℕ) → Bool

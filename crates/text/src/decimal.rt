@@ -5,26 +5,47 @@ ghost use Prim.Native.Nat.{_+_, _≤_};
 ghost use lib.ListN.{length};
 ghost use lib.Seq.{slice};
 ghost use Rattle.text.specs.Inner.{Wrote};
-ghost use Rattle.text.specs.Decimal.{parseNumber, printNumber};
+ghost use Rattle.text.specs.Decimal.{parseNumber, parseWide, printNumber};
 
-// Refused: not a number, or above the limit.
+// A number above this has more than 64 bits when a digit is added to it.
+const TENTH: u64 = 1844674407370955161;
+
+// A number of 32 bits, as the columns of a table have. Refused: not a number, or above the limit.
 pub enum Number {
     Value(u32),
     Refused,
 }
 
-// The number in s[i..e]. Each value is compared with the limit before another digit is added, so that none wraps however
-// many digits there are.
+// A number of 64 bits. Refused: not a number, or above the limit.
+pub enum WideNumber {
+    Value(u64),
+    Refused,
+}
+
+// The number in s[i..e], of a column of 32 bits.
 pub fn read_number(s: &[u8], i: usize, e: usize, limit: u32) -> Number
     requires { ⌜ (i ≤ e) × (e ≤ length (now s)) ⌝ }
     ensures { λ r. ⌜ r ≡ parseNumber limit (slice i e (now (s .entry))) ⌝ }
 {
+    let read = read_wide(s, i, e, limit as u64);
+    match read {
+        WideNumber::Value(v) => Number::Value(v as u32),
+        WideNumber::Refused => Number::Refused,
+    }
+}
+
+// The number in s[i..e]. Each value is compared with the limit before another digit is added, so that none wraps however
+// many digits there are.
+pub fn read_wide(s: &[u8], i: usize, e: usize, limit: u64) -> WideNumber
+    requires { ⌜ (i ≤ e) × (e ≤ length (now s)) ⌝ }
+    ensures { λ r. ⌜ r ≡ parseWide limit (slice i e (now (s .entry))) ⌝ }
+{
     if i == e {
-        return Number::Refused;
+        return WideNumber::Refused;
     }
     if s[i] == b'0' {
         if i + 1 < e {
-            return Number::Refused;
+            return WideNumber::Refused;
         }
     }
     let mut k = i;
@@ -32,18 +53,25 @@ pub fn read_number(s: &[u8], i: usize, e: usize, limit: u32) -> Number
     while k < e {
         let b = s[k];
         if b < b'0' {
-            return Number::Refused;
+            return WideNumber::Refused;
         }
         if b'9' < b {
-            return Number::Refused;
+            return WideNumber::Refused;
         }
-        v = v * 10 + (b - b'0') as u64;
-        if (limit as u64) < v {
-            return Number::Refused;
+        let d = (b - b'0') as u64;
+        if TENTH < v {
+            return WideNumber::Refused;
         }
+        if limit < v * 10 {
+            return WideNumber::Refused;
+        }
+        if limit - v * 10 < d {
+            return WideNumber::Refused;
+        }
+        v = v * 10 + d;
         k += 1;
     }
-    Number::Value(v as u32)
+    WideNumber::Value(v)
 }
 
 // How many bytes n takes in decimal.

@@ -10,13 +10,16 @@ use Rattle.machine.proofs.buffers.fill_bytes.Statement.{statement}
 use Rattle.machine.proofs.buffers.fill_bytes.Tie as tie
 
 abbrev Inv-loop : tie.InvT-loop
-Inv-loop bytes₀ k₀ bytes k = (length bytes ≡ length bytes₀) × ((i : ℕ) → i < k → getD bytes i 0 ≡ untouchedByte)
+Inv-loop bytes₀ k₀ bytes k = (length bytes ≡ length bytes₀) × ((i : ℕ) → i < k → getD bytes i 0 ≡ untouchedByte i)
 
 abbrev μ-loop : tie.MeasureT-loop
 μ-loop bytes₀ k₀ bytes k = length bytes₀ - k
 
 loop-holds : tie.Need-loop-holds Inv-loop μ-loop
 loop-holds c = (refl, λ i h. absurd (omega arith))
+
+untouched-byte-requires : tie.Need-untouched-byte-requires Inv-loop μ-loop
+untouched-byte-requires c κs = search needs
 
 slice-write-bytes : tie.Need-slice-write-bytes Inv-loop μ-loop
 slice-write-bytes c = search needs
@@ -29,8 +32,8 @@ loop-less c = search needs
 
 loop-again : tie.Need-loop-again Inv-loop μ-loop
 loop-again c =
-    let l = c .before .loop in
-    (search needs, filled-next untouchedByte (l .bytes) (l .k) (search needs) (l .inv .1))
+    let l = c .before .before .loop in
+    (search needs, rw (c .untouched-byte .ensures) (filled-next untouchedByte (l .bytes) (l .k) (search needs) (l .inv .1)))
 
 same-length : tie.Need-same-length Inv-loop μ-loop
 same-length c = search needs
@@ -47,6 +50,7 @@ fill-bytes-spec =
     Inv-loop
     μ-loop
     loop-holds
+    untouched-byte-requires
     slice-write-bytes
     add-k
     loop-less

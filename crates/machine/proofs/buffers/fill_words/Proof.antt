@@ -10,13 +10,16 @@ use Rattle.machine.proofs.buffers.fill_words.Statement.{statement}
 use Rattle.machine.proofs.buffers.fill_words.Tie as tie
 
 abbrev Inv-loop : tie.InvT-loop
-Inv-loop words₀ k₀ words k = (length words ≡ length words₀) × ((i : ℕ) → i < k → getD words i 0 ≡ untouchedWord)
+Inv-loop words₀ k₀ words k = (length words ≡ length words₀) × ((i : ℕ) → i < k → getD words i 0 ≡ untouchedWord i)
 
 abbrev μ-loop : tie.MeasureT-loop
 μ-loop words₀ k₀ words k = length words₀ - k
 
 loop-holds : tie.Need-loop-holds Inv-loop μ-loop
 loop-holds c = (refl, λ i h. absurd (omega arith))
+
+untouched-word-requires : tie.Need-untouched-word-requires Inv-loop μ-loop
+untouched-word-requires c κs = search needs
 
 mul-words : tie.Need-mul-words Inv-loop μ-loop
 mul-words c = search needs
@@ -32,8 +35,8 @@ loop-less c = search needs
 
 loop-again : tie.Need-loop-again Inv-loop μ-loop
 loop-again c =
-    let l = c .before .loop in
-    (search needs, filled-next untouchedWord (l .words) (l .k) (search needs) (l .inv .1))
+    let l = c .before .before .loop in
+    (search needs, rw (c .untouched-word .ensures) (filled-next untouchedWord (l .words) (l .k) (search needs) (l .inv .1)))
 
 same-length : tie.Need-same-length Inv-loop μ-loop
 same-length c = search needs
@@ -50,6 +53,7 @@ fill-words-spec =
     Inv-loop
     μ-loop
     loop-holds
+    untouched-word-requires
     mul-words
     slice-write-words
     add-k

@@ -4,13 +4,13 @@ use mathlib.Core.Path.{_≡_, refl, sym, _∙_}
 use native.Mathlib.Omega.{arith}
 use borrow.Author.Needs.{needs}
 use lib.ListN.{length, drop}
-use Rattle.machine.specs.Buffers.{untouchedWord, allAre}
+use Rattle.machine.specs.Buffers.{untouchedWord, allFrom}
 use Rattle.machine.proofs.BufferLaws.{same-on, differs-at, none-left}
 use Rattle.machine.proofs.buffers.words_untouched.Statement.{statement}
 use Rattle.machine.proofs.buffers.words_untouched.Tie as tie
 
 abbrev Inv-loop : tie.InvT-loop
-Inv-loop words from k₀ k = allAre untouchedWord (drop from words) ≡ allAre untouchedWord (drop k words)
+Inv-loop words from k₀ k = allFrom untouchedWord from (drop from words) ≡ allFrom untouchedWord k (drop k words)
 
 abbrev μ-loop : tie.MeasureT-loop
 μ-loop words from k₀ k = length words - k
@@ -24,10 +24,13 @@ mul-if1 c = search needs
 shared-slice-read-if1 : tie.Need-shared-slice-read-if1 Inv-loop μ-loop
 shared-slice-read-if1 c = search needs
 
+untouched-word-requires : tie.Need-untouched-word-requires Inv-loop μ-loop
+untouched-word-requires c κs = search needs
+
 returns : tie.Need-returns Inv-loop μ-loop
 returns c =
-    let k = c .before .before .before in
-    sym (k .loop .inv ∙ differs-at untouchedWord (k .before .args .words .now) (k .loop .k) (omega arith) (c .if1 .taken))
+    let k = c .before .before .before .before in
+    sym (k .loop .inv ∙ differs-at untouchedWord (k .before .before .args .words .now) (k .loop .k) (search needs) (λ e. c .if1 .taken (e ∙ sym (c .before .untouched-word .ensures))))
 
 add-k : tie.Need-add-k Inv-loop μ-loop
 add-k c = search needs
@@ -37,13 +40,13 @@ loop-less c = search needs
 
 loop-again : tie.Need-loop-again Inv-loop μ-loop
 loop-again c =
-    let k = c .before .before .before in
-    k .loop .inv ∙ same-on untouchedWord (k .before .args .words .now) (k .loop .k) (omega arith) (c .if1 .left)
+    let k = c .before .before .before .before in
+    k .loop .inv ∙ same-on untouchedWord (k .before .before .args .words .now) (k .loop .k) (search needs) (c .if1 .left ∙ c .before .untouched-word .ensures)
 
 returns-2 : tie.Need-returns-2 Inv-loop μ-loop
 returns-2 c =
     let k = c .before in
-    sym (k .loop .inv ∙ none-left untouchedWord (k .before .args .words .now) (k .loop .k) (omega arith))
+    sym (k .loop .inv ∙ none-left untouchedWord (k .before .before .args .words .now) (k .loop .k) (search needs))
 
 pub words-untouched-spec : {M : Type 1} → statement M
 words-untouched-spec =
@@ -54,6 +57,7 @@ words-untouched-spec =
     loop-holds
     mul-if1
     shared-slice-read-if1
+    untouched-word-requires
     returns
     add-k
     loop-less

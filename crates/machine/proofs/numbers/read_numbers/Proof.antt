@@ -29,11 +29,11 @@ add-find-byte c = search needs
 find-byte-requires : tie.Need-find-byte-requires Inv-loop μ-loop
 find-byte-requires c κs = search needs
 
-add-read-number : tie.Need-add-read-number Inv-loop μ-loop
-add-read-number c = search needs
+add-read-wide : tie.Need-add-read-wide Inv-loop μ-loop
+add-read-wide c = search needs
 
-read-number-requires : tie.Need-read-number-requires Inv-loop μ-loop
-read-number-requires c κs = search needs
+read-wide-requires : tie.Need-read-wide-requires Inv-loop μ-loop
+read-wide-requires c κs = search needs
 
 enum-known-number : tie.Need-enum-known-number Inv-loop μ-loop
 enum-known-number c = search needs
@@ -79,8 +79,8 @@ read-numbers-spec =
     returns
     add-find-byte
     find-byte-requires
-    add-read-number
-    read-number-requires
+    add-read-wide
+    read-wide-requires
     enum-known-number
     enum-told
     same-length-2

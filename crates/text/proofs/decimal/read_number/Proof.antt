@@ -1,116 +1,39 @@
--- `read_number` meets its contract. The loop's invariant: what the field says is what the digits left say after the value so far. Assumes nothing.
-use Prim.Native.Nat.{_-_, _≤_}
-use mathlib.Core.Path.{_≡_, sym}
-use mathlib.Core.Logic.{⊎-elim}
+-- `read_number` meets its contract: what is within a limit of 32 bits is the same number in both widths. Assumes nothing.
+use mathlib.Core.Path.{sym, ap, _∙_}
 use native.Mathlib.Omega.{arith}
 use borrow.Author.Needs.{needs}
-use denote.Ref.{now}
 use lib.Seq.{slice}
-use Rattle.text.specs.Decimal.{parseNumber}
-use Rattle.text.proofs.DigitLaws.{digits, number-start, number-ill-led, digits-low, digits-high, digits-over, digits-more, digits-end, led-none, led-zero, led-other, led-one}
+use denote.Ref.{now}
+use Rattle.text.proofs.DecimalLaws.{wide-value, wide-refused}
 use Rattle.text.proofs.decimal.read_number.Statement.{statement}
 use Rattle.text.proofs.decimal.read_number.Tie as tie
 
-abbrev Inv-loop : tie.InvT-loop
-Inv-loop s i e limit k₀ v₀ k v = (k ≤ e) × (v ≤ limit) × (parseNumber limit (slice i e s) ≡ digits limit v (slice k e s))
+read-wide-requires : tie.Need-read-wide-requires
+read-wide-requires c κs = search needs
 
-abbrev μ-loop : tie.MeasureT-loop
-μ-loop s i e limit k₀ v₀ k v = e - k
+enum-known-read : tie.Need-enum-known-read
+enum-known-read c = search needs
 
-returns : tie.Need-returns Inv-loop μ-loop
+cast-t9 : tie.Need-cast-t9
+cast-t9 c =
+    let a = c .before .before .before .before .before .args in
+    let k = c .before .read .given in
+    omega (arith, wide-value (a .limit) (slice (a .i) (a .e) (now (a .s))) (k .0 .0) (sym (c .before .before .before .read-wide .ensures) ∙ k .1) .1)
+
+enum-told : tie.Need-enum-told
+enum-told c = search needs
+
+returns : tie.Need-returns
 returns c =
-    let a = c .before .args in
-    sym (number-ill-led (a .limit) _ (rw (c .if1 .taken) (led-none (now (a .s)) (a .e))))
+    let a = c .before .before .before .before .before .args in
+    let k = c .before .read .given in
+    sym (wide-value (a .limit) (slice (a .i) (a .e) (now (a .s))) (k .0 .0) (sym (c .before .before .before .read-wide .ensures) ∙ k .1) .0)
 
-shared-slice-read-if2 : tie.Need-shared-slice-read-if2 Inv-loop μ-loop
-shared-slice-read-if2 c = search needs
-
-add-if3 : tie.Need-add-if3 Inv-loop μ-loop
-add-if3 c = search needs
-
-returns-2 : tie.Need-returns-2 Inv-loop μ-loop
+returns-2 : tie.Need-returns-2
 returns-2 c =
     let a = c .before .before .before .before .args in
-    sym (number-ill-led (a .limit) _ (led-zero (now (a .s)) (a .i) (a .e) (search needs) (search needs) (c .before .if2 .taken)))
-
-loop-holds : tie.Need-loop-holds Inv-loop μ-loop
-loop-holds c =
-    let a = c .before .before .before .args in (
-      search needs,
-      search needs,
-      number-start (a .limit) (slice (a .i) (a .e) (now (a .s)))
-          (⊎-elim
-          (λ w. led-one (now (a .s)) (a .i) (a .e) (omega arith) (w .1 .left) (search needs))
-          (λ w. led-other (now (a .s)) (a .i) (a .e) (omega arith) (search needs) (w .left))
-          (c .if2 .came)),
-    )
-
-shared-slice-read-b : tie.Need-shared-slice-read-b Inv-loop μ-loop
-shared-slice-read-b c = search needs
-
-returns-3 : tie.Need-returns-3 Inv-loop μ-loop
-returns-3 c =
-    let a = c .before .before .before .before .before .before .before .args in
-    cc (digits-low (a .limit) (c .before .before .before .loop .v) (now (a .s)) (c .before .before .before .loop .k) (a .e) (search needs) (search needs) (c .if4 .taken))
-
-returns-4 : tie.Need-returns-4 Inv-loop μ-loop
-returns-4 c =
-    let a = c .before .before .before .before .before .before .before .before .args in
-    cc (digits-high (a .limit) (c .before .before .before .before .loop .v) (now (a .s)) (c .before .before .before .before .loop .k) (a .e) (search needs) (search needs) (c .if5 .taken))
-
-mul-v : tie.Need-mul-v Inv-loop μ-loop
-mul-v c = search needs
-
-cast-v : tie.Need-cast-v Inv-loop μ-loop
-cast-v c = search needs
-
-add-v : tie.Need-add-v Inv-loop μ-loop
-add-v c = search needs
-
-returns-5 : tie.Need-returns-5 Inv-loop μ-loop
-returns-5 c =
-    let a = c .before .before .before .before .before .before .before .before .before .args in
-    cc (digits-over (a .limit) (c .before .before .before .before .before .loop .v) (now (a .s)) (c .before .before .before .before .before .loop .k) (a .e) (search needs) (search needs) (c .if6 .taken))
-
-add-k : tie.Need-add-k Inv-loop μ-loop
-add-k c = search needs
-
-loop-less : tie.Need-loop-less Inv-loop μ-loop
-loop-less c = search needs
-
-loop-again : tie.Need-loop-again Inv-loop μ-loop
-loop-again c =
-    let a = c .before .before .before .before .before .before .before .before .before .args in
-    (search needs, search needs, cc (digits-more (a .limit) (c .before .before .before .before .before .loop .v) (now (a .s)) (c .before .before .before .before .before .loop .k) (a .e) (search needs) (search needs) (search needs) (search needs) (search needs)))
-
-cast-t18 : tie.Need-cast-t18 Inv-loop μ-loop
-cast-t18 c = search needs
-
-returns-6 : tie.Need-returns-6 Inv-loop μ-loop
-returns-6 c =
-    let a = c .before .before .before .before .before .args in
-    cc (digits-end (a .limit) (c .before .loop .v) (now (a .s)) (c .before .loop .k) (a .e) (search needs) (search needs))
+    sym (wide-refused (a .limit) (slice (a .i) (a .e) (now (a .s))) (sym (c .before .before .read-wide .ensures) ∙ c .enum-told .given .1))
 
 pub read-number-spec : {M : Type 1} → statement M
 read-number-spec =
-    tie.close
-    (tie.spec
-    Inv-loop
-    μ-loop
-    returns
-    shared-slice-read-if2
-    add-if3
-    returns-2
-    loop-holds
-    shared-slice-read-b
-    returns-3
-    returns-4
-    mul-v
-    cast-v
-    add-v
-    returns-5
-    add-k
-    loop-less
-    loop-again
-    cast-t18
-    returns-6)
+    tie.close (tie.spec read-wide-requires enum-known-read cast-t9 enum-told returns returns-2)
