@@ -1,0 +1,20 @@
+"""The limits of paper 01, each named once. Whatever follows from one is computed from its name."""
+
+ACTIVITIES = 32  # Activities are numbers 0 to 31; a set of them is a mask of so many bits.
+SETS = 16  # The most sets on a side of an activity.
+POSITIONS = 64  # The longest sequence or trace; also the words that a row's buffer needs.
+NET_BYTES = 131_072
+LOG_BYTES = 524_288
+LOG_ROWS = 1_000
+SESSIONS = 1_000_000  # The most sessions of one row.
+
+# The limits of a script, from docs/SCRIPTS.md.
+REGISTERS = 4
+BUFFER_WORDS = 4_096
+BUFFER_BYTES = 131_072
+
+# What other names would hide.
+LAST = ACTIVITIES - 1  # The highest activity.
+ALL = 2**ACTIVITIES - 1  # The set of all activities.
+MAX_32 = 2**32 - 1
+MAX_64 = 2**64 - 1
