@@ -1,4 +1,4 @@
-"""Sequences and traces that several sections use, and how numbers are written in a command."""
+"""Sequences and traces that several sections use, written as the words of a command."""
 
 # The sequence of Fig. 4 of document 003, with a to e as 0 to 4.
 FIG_4 = "0 0 2 1 1 6 1 2 12 2 2 8 2 2 8 3 6 8 3 12 16 4 8 0"
@@ -8,5 +8,15 @@ def words(numbers):
     return " ".join(map(str, numbers))
 
 
-def mask(*activities):
-    return sum(1 << activity for activity in activities)
+def repeated(part, times):
+    return " ".join([part] * times)
+
+
+def loop(positions):
+    """A well-formed sequence of any length from 4 on, always with the same sets."""
+    return f"0 0 2 1 1 2 {repeated('1 2 2', positions - 4)} 1 2 8 3 2 0"
+
+
+def loop_trace(entries):
+    """The trace of loop: follow makes the loop of as many positions from it."""
+    return f"0 {repeated('1', entries - 2)} 3"
