@@ -20,3 +20,8 @@ def loop(positions):
 def loop_trace(entries):
     """The trace of loop: follow makes the loop of as many positions from it."""
     return f"0 {repeated('1', entries - 2)} 3"
+
+
+def fillers(number, lowest=16):
+    """So many sets for a side that don't occur in a sequence whose sets are below the lowest."""
+    return range(lowest, lowest + number)

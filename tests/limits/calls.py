@@ -1,6 +1,7 @@
 """Commands that the sections say again and again, with their answers."""
 
 from bindings import words
+from files import F_FILE
 from limits import POSITIONS
 from script import ok, refused, say, text
 
@@ -17,6 +18,12 @@ def put_new(register, side, activity, *sets):
     """Sets that are put on a side one after another and are all new there."""
     for one in sets:
         say(f"put {register} {side} {activity} {one}", "ok 1")
+
+
+def read_f(register):
+    """The register becomes net F, by way of its file."""
+    text(F_FILE)
+    ok(f"readnet {register}")
 
 
 def peek(register, first, count, record):

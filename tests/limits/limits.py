@@ -13,8 +13,9 @@ REGISTERS = 4
 BUFFER_WORDS = 4_096
 BUFFER_BYTES = 131_072
 
-# What other names would hide.
+# Numbers at the borders.
 LAST = ACTIVITIES - 1  # The highest activity.
+NO_ACTIVITY = ACTIVITIES  # The lowest number that is none.
 ALL = 2**ACTIVITIES - 1  # The set of all activities.
 MAX_32 = 2**32 - 1
 MAX_64 = 2**64 - 1

@@ -1,18 +1,17 @@
 """Section 2: every limit of limits.py with what is one below it, at it and one above it."""
 
-from bindings import FIG_4, loop, loop_trace, repeated, words
+from bindings import FIG_4, fillers, loop, loop_trace, repeated, words
 from calls import IN, OUT, put_new, refused_row, row, same
 from files import F_FILE, log_file, net_file
 from limits import (
     ACTIVITIES, ALL, BUFFER_BYTES, BUFFER_WORDS, LAST, LOG_BYTES, LOG_ROWS, MAX_32, MAX_64,
-    NET_BYTES, POSITIONS, SESSIONS, SETS,
+    NET_BYTES, NO_ACTIVITY, POSITIONS, SESSIONS, SETS,
 )
 from record import in_length, in_place, out_length, out_place
 from script import note, ok, refused, say, section, shown, text
 from wording import nth, spelled, spelled_nth
 
 NEXT_LAST = LAST - 1
-ABOVE = ACTIVITIES  # The lowest number that is no activity.
 FULL, ONE_SHORT, TWO_SHORT = spelled(SETS), spelled(SETS - 1), spelled(SETS - 2)
 TOO_MANY = spelled_nth(SETS + 1)
 # Digits that no width of a machine's numbers holds.
@@ -68,12 +67,12 @@ def activities_of_fresh():
     ok(f"fresh 0 {LAST} 0")
     say(f"peek 0 {in_length(LAST)} 2", "words 1 1")
 
-    note(f"1: the start is {ABOVE}; a refused fresh returns the fresh net of 0 and 1.")
-    refused(1, 0, f"fresh 0 {ABOVE} 0")
+    note(f"1: the start is {NO_ACTIVITY}; a refused fresh returns the fresh net of 0 and 1.")
+    refused(1, 0, f"fresh 0 {NO_ACTIVITY} 0")
     same(0, 3)
 
-    note(f"1: the end is {ABOVE}.")
-    for ends in f"0 {ABOVE}", f"{LAST} {ABOVE}", f"{ABOVE} {LAST}":
+    note(f"1: the end is {NO_ACTIVITY}.")
+    for ends in f"0 {NO_ACTIVITY}", f"{LAST} {NO_ACTIVITY}", f"{NO_ACTIVITY} {LAST}":
         ok("fresh 0 9 8")
         refused(1, 0, f"fresh 0 {ends}")
         same(0, 3)
@@ -81,24 +80,24 @@ def activities_of_fresh():
     note(f"1: the largest 32-bit numbers are above {LAST} too.")
     refused(1, 0, f"fresh 0 {MAX_32} 0", f"fresh 0 0 {MAX_32}")
 
-    note(f"1: {ABOVE + 1} is above {LAST}, although its low five bits are those of 1.")
-    refused(1, 0, f"fresh 0 {ABOVE + 1} 2", f"fresh 0 2 {ABOVE + 1}")
+    note(f"1: {NO_ACTIVITY + 1} is above {LAST}, although its low five bits are those of 1.")
+    refused(1, 0, f"fresh 0 {NO_ACTIVITY + 1} 2", f"fresh 0 2 {NO_ACTIVITY + 1}")
 
     note("1: start and end are equal at the border.")
     refused(1, 0, f"fresh 0 {LAST} {LAST}", "fresh 0 0 0")
 
 
 def activities_of_put():
-    note(f"4: in put {NEXT_LAST} and {LAST} are activities, {ABOVE} is above {LAST}; the place is "
+    note(f"4: in put {NEXT_LAST} and {LAST} are activities, {NO_ACTIVITY} is above {LAST}; the place is "
          "0 for put.")
     ok(f"fresh 0 0 {LAST}")
     put_new(0, IN, NEXT_LAST, 1)
     put_new(0, OUT, NEXT_LAST, 1 << LAST)
     put_new(0, IN, LAST, 1 << NEXT_LAST)
     ok("copy 1 0")
-    refused(4, 0, f"put 0 0 {ABOVE} 1")
+    refused(4, 0, f"put 0 0 {NO_ACTIVITY} 1")
     same(0, 1)
-    refused(4, 0, f"put 0 1 {ABOVE} 1")
+    refused(4, 0, f"put 0 1 {NO_ACTIVITY} 1")
     same(0, 1)
     refused(4, 0, f"put 0 0 {MAX_32} 1", f"put 0 1 {MAX_32} 1")
     same(0, 1)
@@ -110,7 +109,7 @@ def activities_of_put():
 
 
 def activities_of_traces():
-    note(f"4: in the trace of a follow {NEXT_LAST} and {LAST} are activities, {ABOVE} is not; the "
+    note(f"4: in the trace of a follow {NEXT_LAST} and {LAST} are activities, {NO_ACTIVITY} is not; the "
          "position is returned.")
     ok(f"fresh 0 0 {LAST}")
     say(f"follow 0 0 {NEXT_LAST} {LAST}", "ok 4")
@@ -119,18 +118,18 @@ def activities_of_traces():
     say(f"peek 0 {out_place(NEXT_LAST)} 1", f"words {1 << LAST}")
     say(f"peek 0 {in_place(LAST)} 1", f"words {1 << NEXT_LAST}")
     ok("copy 1 0")
-    refused(4, 2, f"follow 0 0 {ABOVE} {LAST}")
+    refused(4, 2, f"follow 0 0 {NO_ACTIVITY} {LAST}")
     same(0, 1)
-    refused(4, 3, f"follow 0 0 {NEXT_LAST} {ABOVE}")
-    refused(4, 1, f"follow 0 {ABOVE} {NEXT_LAST} {LAST}")
+    refused(4, 3, f"follow 0 0 {NEXT_LAST} {NO_ACTIVITY}")
+    refused(4, 1, f"follow 0 {NO_ACTIVITY} {NEXT_LAST} {LAST}")
     same(0, 1)
 
     note("4: the same for the trace of a replay.")
     say("check 0", "ok 2")
     say(f"replay 0 100 9 0 {NEXT_LAST} {LAST}", f"found 3 {by_the_next_last()}")
-    refused(4, 2, f"replay 0 100 9 0 {ABOVE} {LAST}")
-    refused(4, 1, f"replay 0 100 9 {ABOVE} {NEXT_LAST} {LAST}")
-    refused(4, 3, f"replay 0 100 9 0 {NEXT_LAST} {ABOVE}")
+    refused(4, 2, f"replay 0 100 9 0 {NO_ACTIVITY} {LAST}")
+    refused(4, 1, f"replay 0 100 9 {NO_ACTIVITY} {NEXT_LAST} {LAST}")
+    refused(4, 3, f"replay 0 100 9 0 {NEXT_LAST} {NO_ACTIVITY}")
     refused(4, 2, f"replay 0 100 9 0 {MAX_32} {LAST}")
 
 
@@ -144,15 +143,15 @@ def activities_of_sequences():
     ok(f"fresh 0 0 {LAST}")
     say(f"learn 0 {by_the_next_last()}", "ok 4")
     same(0, 1)
-    refused(4, 2, f"learn 0 {by_the_next_last(second=ABOVE)}")
-    refused(4, 1, f"learn 0 {by_the_next_last(first=ABOVE)}")
-    refused(4, 3, f"learn 0 {by_the_next_last(third=ABOVE)}",
+    refused(4, 2, f"learn 0 {by_the_next_last(second=NO_ACTIVITY)}")
+    refused(4, 1, f"learn 0 {by_the_next_last(first=NO_ACTIVITY)}")
+    refused(4, 3, f"learn 0 {by_the_next_last(third=NO_ACTIVITY)}",
             f"learn 0 {by_the_next_last(third=MAX_32)}")
     same(0, 1)
     ok(f"judge 0 {by_the_next_last()}")
-    refused(4, 2, f"judge 0 {by_the_next_last(second=ABOVE)}")
-    refused(4, 1, f"judge 0 {by_the_next_last(first=ABOVE)}")
-    refused(4, 3, f"judge 0 {by_the_next_last(third=ABOVE)}")
+    refused(4, 2, f"judge 0 {by_the_next_last(second=NO_ACTIVITY)}")
+    refused(4, 1, f"judge 0 {by_the_next_last(first=NO_ACTIVITY)}")
+    refused(4, 3, f"judge 0 {by_the_next_last(third=NO_ACTIVITY)}")
 
     note(f"Activity {LAST} in the middle of a sequence.")
     by_the_last = f"0 0 {1 << LAST} {LAST} 1 2 1 {1 << LAST} 0"
@@ -214,11 +213,6 @@ def sets_put_on_an_input_side():
     for one in lowest, fitting[-1]:
         say(f"put 0 0 {LAST} {one}", "ok 0")
     same(0, 1)
-
-
-def fillers(number, lowest=16):
-    """So many sets that the sequences here don't use: theirs are below 16."""
-    return range(lowest, lowest + number)
 
 
 def sets_learned():
@@ -578,8 +572,8 @@ def row_beyond_the_last():
     for number in LOG_ROWS + 1, LOG_ROWS + 2, MAX_64:
         row(number, f"refused 3 {line}")
 
-    note(f"14 comes before 3 on line {line:,}: its entry is {ABOVE}.")
-    text(long_log(LOG_ROWS + 1, f"1,{ABOVE}"))
+    note(f"14 comes before 3 on line {line:,}: its entry is {NO_ACTIVITY}.")
+    text(long_log(LOG_ROWS + 1, f"1,{NO_ACTIVITY}"))
     row(LOG_ROWS, PLAIN_ANSWER)
     row(LOG_ROWS + 1, f"refused 14 {line}")
 
@@ -610,7 +604,7 @@ def entries():
     for number in 0, NEXT_LAST, LAST:
         text(log_file(f"1,{number}"))
         row(1, f"row 1 1 {number}")
-    for number in (ABOVE, 256, MAX_32, 2**32, 2**32 + 1, 2**64, 2**64 + 1, "3" * DIGITS):
+    for number in (NO_ACTIVITY, 256, MAX_32, 2**32, 2**32 + 1, 2**64, 2**64 + 1, "3" * DIGITS):
         refused_row(14, 2, log_file(f"1,{number}"))
 
 
@@ -640,11 +634,11 @@ def faults_beside_too_many_entries():
 
     note(f"14 before 3 on a line: after {above} entries a {nth(above + 1)} is above {LAST}, or is "
          "empty, or has a leading zero.")
-    for entry in f"{ABOVE}", "", "01":
+    for entry in f"{NO_ACTIVITY}", "", "01":
         refused_row(14, 2, log_file(f"8,{too_long} {entry}"))
 
     note(f"14 before 3: the {nth(above)} entry itself is bad, and a {nth(many)} entry is bad.")
-    refused_row(14, 2, log_file(f"8,{repeated('1', above - 1)} {ABOVE}"))
+    refused_row(14, 2, log_file(f"8,{repeated('1', above - 1)} {NO_ACTIVITY}"))
     refused_row(14, 2, log_file(f"8,{repeated('1', many - 1)} x"))
 
     note(f"3: {many} good entries are just too many.")
@@ -750,7 +744,7 @@ def read_numbers(line, file_with, good, bad):
 
 
 def numbers_of_start_and_end_rows():
-    too_high = [ABOVE, 256, MAX_32, 2**32, 2**32 + 1, 2**64, 2**64 + 1]
+    too_high = [NO_ACTIVITY, 256, MAX_32, 2**32, 2**32 + 1, 2**64, 2**64 + 1]
 
     note(f"14: a number in a net file is at most {LAST} and is not cut. First the start row, on "
          "line 2.")
@@ -766,12 +760,12 @@ def numbers_of_other_rows():
     note("14: the activity of a row, on line 4.")
     read_numbers(4, lambda number: net_file(0, 3, f"in,{number},2"),
                  good=[1, LAST],
-                 bad=[ABOVE, 257, 2**32, 2**32 + 1, 2**64, 2**64 + 1, "1" * DIGITS])
+                 bad=[NO_ACTIVITY, 257, 2**32, 2**32 + 1, 2**64, 2**64 + 1, "1" * DIGITS])
 
     note("14: a member of a row, on line 4; the members before it are lower.")
     read_numbers(4, lambda number: net_file(0, 3, f"out,1,0 1 {number}"),
                  good=[2, LAST],
-                 bad=[ABOVE, ABOVE + 1, 2**32, 2**32 + 2, 2**64, 2**64 + 2, "2" * DIGITS])
+                 bad=[NO_ACTIVITY, NO_ACTIVITY + 1, 2**32, 2**32 + 2, 2**64, 2**64 + 2, "2" * DIGITS])
     same(0, 3)
 
     note(f"A row may name all {ACTIVITIES} activities.")
