@@ -8,6 +8,11 @@ def words(numbers):
     return " ".join(map(str, numbers))
 
 
+def mask(*activities):
+    """The set of these activities."""
+    return sum(1 << activity for activity in activities)
+
+
 def repeated(part, times):
     return " ".join([part] * times)
 
