@@ -1,0 +1,171 @@
+"""Section 9: lines that are no command of docs/SCRIPTS.md, each by one fault.
+
+Without its fault a line would be a command, most of which would change a register.
+"""
+
+from calls import peek, read_f, same
+from files import log_file
+from limits import BUFFER_BYTES, BUFFER_WORDS, MAX_64, POSITIONS, REGISTERS
+from record import WORDS, in_place, record
+from script import no_command, note, ok, passed_over, say, section, shown, text
+
+LOG = log_file("12,0 1 3")
+
+
+def write():
+    section(9, "Lines of a script that are no command: each answers a question mark and changes "
+               "nothing.")
+    note("Register 0 is F, register 1 the same, register 2 and 3 are other nets, the text is a "
+         "log.")
+    read_f(0)
+    ok("copy 1 0", "fresh 2 5 9", "fresh 3 0 1")
+    text(LOG)
+    command_words()
+    how_many_numbers()
+    registers_and_sides()
+    words_of_a_record()
+    highest_numbers()
+    buffers()
+    spaces()
+    digits()
+    number_signs()
+    nothing_has_changed()
+    lines_of_a_text()
+
+
+def command_words():
+    note("Words that are no command, also by one letter, and commands in upper case.")
+    no_command("hello", "hello 0", "frsh 0 0 3", "freshh 0 0 3", "fres 0 0 3", "checks 0", "chec 0",
+               "x", "0", "0 0 3", "?", "Check 0", "CHECK 0", "Fresh 0 0 3", "FRESH 0 0 3",
+               "Put 0 0 1 2", "SHOW", "Show", f"Readrow 1 {POSITIONS}", f"readRow 1 {POSITIONS}",
+               "step 0", "check,0", "check:0", "check0")
+
+
+def how_many_numbers():
+    note("A number is missing.")
+    no_command("fresh", "fresh 0", "fresh 0 1",
+               "put", "put 0", "put 0 0", "put 0 0 1",
+               "poke", "poke 0", "poke 0 5",
+               "peek", "peek 0", "peek 0 0",
+               "copy", "copy 0",
+               "same", "same 0",
+               "contained", "contained 0",
+               "check", "judge", "peak", "learn", "follow",
+               "replay", "replay 0", "replay 0 100",
+               "readnet",
+               "writenet", "writenet 0",
+               "readrow", "readrow 1",
+               "text")
+
+    note("There is a number too many.")
+    no_command("fresh 0 0 1 2", "put 0 0 1 2 3", "poke 0 5 5 5", "peek 0 0 1 1", "copy 0 3 3",
+               "same 0 1 1", "contained 0 1 1", "check 0 0", "readnet 0 0", "writenet 0 200 200",
+               "show 0", "show 1 2", f"readrow 1 {POSITIONS} {POSITIONS}", "text 1 1")
+
+
+def registers_and_sides():
+    none = REGISTERS
+    note(f"There are registers 0 to {REGISTERS - 1}, and no register {none}.")
+    no_command(f"fresh {none} 0 3", f"put {none} 0 1 2", f"poke {none} 5 5", f"peek {none} 0 1",
+               f"copy {none} 0", f"copy 0 {none}", f"same {none} 0", f"same 0 {none}",
+               f"contained {none} 0", f"contained 0 {none}", f"check {none}",
+               f"judge {none} 0 0 2 1 1 8 3 2 0", f"peak {none} 0 0 2 1 1 8 3 2 0",
+               f"learn {none} 0 0 2 1 1 8 3 2 0", f"follow {none} 0 1 3",
+               f"replay {none} 100 9 0 1 3", f"readnet {none}", f"writenet {none} 200",
+               f"check {2**32}", f"copy 0 {2**32 + 3}", f"check {MAX_64}")
+
+    note("The sides are 0 and 1.")
+    no_command("put 0 2 1 2", f"put 0 {2**32} 1 2")
+
+
+def words_of_a_record():
+    last = WORDS - 1
+    lists = in_place(0)
+    note(f"The words of a record are 0 to {last:,}, and a word is below 2^32.")
+    no_command(f"poke 0 {WORDS} 1", f"poke 0 {MAX_64} 1", f"poke 0 5 {2**32}",
+               f"poke 0 {WORDS} {2**32}", f"poke 0 5 {MAX_64}",
+               f"peek 0 {WORDS} 1", f"peek 0 {last} 2", f"peek 0 0 {WORDS + 1}",
+               f"peek 0 {lists} {WORDS - lists + 1}", f"peek 0 1 {WORDS}",
+               f"peek 0 {MAX_64} 2", f"peek 0 2 {MAX_64}")
+
+    note("The last word alone and the whole record are within the range.")
+    peek(2, last, 1, record(5, 9))
+    peek(3, 0, WORDS, record(0, 1))
+
+
+def highest_numbers():
+    note("Numbers are below 2^64.")
+    no_command(f"check {2**64}", f"replay 0 {2**64} 9 0 1 3",
+               f"readrow {2**64} {POSITIONS}", f"readrow {2**64 + 1} {POSITIONS}",
+               f"poke 0 {2**64} 1", f"poke 0 0 {2**64}",
+               f"fresh {2**64} 0 3", f"fresh 0 {2**64} 3",
+               f"replay 0 100 {2**64 + 9} 0 1 3", f"follow 0 0 {2**64 + 1} 3",
+               f"check {2**128}", f"check {'9' * 100}")
+
+
+def buffers():
+    note(f"A buffer has at most {BUFFER_WORDS:,} words, or {BUFFER_BYTES:,} bytes.")
+    no_command(f"replay 0 100 {BUFFER_WORDS + 1} 0 1 3", f"readrow 1 {BUFFER_WORDS + 1}",
+               f"peek 0 0 {BUFFER_WORDS + 1}", f"writenet 0 {BUFFER_BYTES + 1}",
+               f"replay 0 100 {2**32 + 9} 0 1 3", f"readrow 1 {2**32 + POSITIONS}",
+               f"writenet 0 {2**32 + 200}",
+               f"readrow 0 {BUFFER_WORDS + 1}", f"readrow 1 {MAX_64}", f"writenet 0 {MAX_64}")
+
+    note("At those limits they are commands.")
+    say(f"replay 0 100 {BUFFER_WORDS} 0 1 3", "found 3 0 0 2 1 1 8 3 2 0")
+    say(f"readrow 1 {BUFFER_WORDS}", "row 12 3 0 1 3")
+
+
+def spaces():
+    note("Numbers are separated by single spaces: two spaces, one at the end, one in front, a "
+         "tab, a comma.")
+    no_command("check  0", "check 0 ", " check 0", "check\t0", "check 0\t", "\tcheck 0", "check ",
+               " ", "  ", "fresh 0  0 3", "fresh  0 0 3", "fresh 0 0 3 ", " fresh 0 0 3",
+               "fresh 0 0\t3", "fresh 0,0,3", "follow 0 0 1  3", "follow 0 0 1 3 ", "show ",
+               " show", f"readrow 1  {POSITIONS}", "check 0\r", "show\r")
+
+    note("The next two lines are empty.")
+    no_command("", "")
+
+
+def digits():
+    note("Numbers are decimal digits alone: no sign, point, letter or quote.")
+    no_command("check +0", "check -0", "check 0.", "check 0.0", "check 0x0", "check a",
+               'check "0"', "check 0a", "check /", "check :", "check \xb2", "fresh 0 0 -3",
+               "fresh 0 +0 3", "fresh 0 0 3.0", "fresh 0 0 3e0", "follow 0 0 one 3", "check 0 #",
+               "check #")
+
+
+def number_signs():
+    note("A line with a space before its number sign starts with the space and is no comment.")
+    no_command(" # check 0")
+
+    note("A line that starts with a number sign is passed over, whatever follows; the next line "
+         "looks like a command and answers nothing.")
+    passed_over("#fresh 0 5 9", "#", "##")
+
+
+def nothing_has_changed():
+    note("Nothing has changed by all these lines.")
+    same(0, 1)
+    say("check 0", "ok 4")
+    ok("fresh 1 5 9")
+    same(1, 2)
+    ok("fresh 1 0 1")
+    same(1, 3)
+    shown(LOG)
+
+
+def lines_of_a_text():
+    any_bytes = "fresh 0 5 9\n# check 0\ncheck 0\n\n?\x00\xff\r\n"
+    note("Lines of a text are no lines of the script, even if they look like commands or "
+         "comments, and its bytes may be any.")
+    text(any_bytes)
+    shown(any_bytes)
+    say("check 0", "ok 4")
+
+    note("A text of no bytes, and of one LF.")
+    for content in "", "\n":
+        text(content)
+        shown(content)
+    say("same 0 1", "ok 0")
