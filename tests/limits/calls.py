@@ -3,6 +3,7 @@
 from bindings import words
 from files import F_FILE
 from limits import POSITIONS
+from record import in_place
 from script import ok, refused, say, text
 
 IN = 0
@@ -24,6 +25,14 @@ def read_f(register):
     """The register becomes net F, by way of its file."""
     text(F_FILE)
     ok(f"readnet {register}")
+
+
+def disorderly_f():
+    """Register 0 becomes F, which register 1 holds, with one word changed.
+
+    It is the place behind the three sets of the input side of 3, which is no longer zero.
+    """
+    ok("copy 0 1", f"poke 0 {in_place(3, 3)} 7")
 
 
 def peek(register, first, count, record):

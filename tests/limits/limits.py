@@ -19,3 +19,4 @@ NO_ACTIVITY = ACTIVITIES  # The lowest number that is none.
 ALL = 2**ACTIVITIES - 1  # The set of all activities.
 MAX_32 = 2**32 - 1
 MAX_64 = 2**64 - 1
+DIGITS = 400  # Digits of a number that no width of a machine's words holds.

@@ -27,7 +27,7 @@ def out_place(activity, place=0):
 WORDS = out_place(ACTIVITIES)
 
 
-def record(start, end, inputs={}, outputs={}):
+def record(start, end, inputs, outputs):
     """All words of the orderly record with these lists, and with the two empty sets.
 
     The lists are given by activity, each ascending.
@@ -44,3 +44,7 @@ def record(start, end, inputs={}, outputs={}):
         words[out_length(activity)] = len(sets)
         words[out_place(activity) : out_place(activity, len(sets))] = sets
     return words
+
+
+def fresh_record(start, end):
+    return record(start, end, inputs={}, outputs={})

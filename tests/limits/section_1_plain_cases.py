@@ -4,7 +4,7 @@ from bindings import FIG_4
 from calls import IN, OUT, peek, put_new, row, same
 from files import F_FILE, log_file
 from limits import ACTIVITIES, LAST
-from record import WORDS, in_length, in_place, out_length, out_place, record
+from record import WORDS, fresh_record, in_length, in_place, out_length, out_place, record
 from script import note, ok, refused, say, section, shown, text
 
 F_RECORD = record(
@@ -48,7 +48,7 @@ def fresh_nets():
 
 def peek_fresh(start, end):
     """Register 0 holds the fresh net: first its start, end and lengths, then its lists."""
-    fresh = record(start, end)
+    fresh = fresh_record(start, end)
     peek(0, 0, in_place(0), fresh)
     peek(0, in_place(0), WORDS - in_place(0), fresh)
 

@@ -5,7 +5,7 @@ the start's input side and the end's output side hold just the empty set, and no
 it; unused places are zero.
 """
 
-from calls import IN, OUT, put_new, read_f, same
+from calls import OUT, put_new, read_f, same
 from limits import ALL, BUFFER_BYTES, LAST, MAX_32, NO_ACTIVITY, SETS
 from record import END, START, WORDS, in_length, in_place, out_length, out_place
 from script import note, ok, refused, say, section, shown, text

@@ -16,6 +16,8 @@ def write():
     arcs_to_oneself()
     walks()
     activities_apart()
+    several_on_no_walk()
+    nets_without_a_valid_sequence()
     nets_of_all_activities()
     most_arcs()
 
@@ -188,6 +190,8 @@ def activities_apart():
     put_new(0, OUT, 9, mask(9))
     refused(6, 9, "check 0")
 
+
+def several_on_no_walk():
     note("Several on no walk: the lowest is returned, wherever it is named.")
     ok("copy 0 1")
     put_new(0, OUT, 2, mask(30, 31))
@@ -197,6 +201,8 @@ def activities_apart():
     put_new(0, OUT, 0, mask(28))
     refused(6, 28, "check 0")
 
+
+def nets_without_a_valid_sequence():
     note("The sets are not looked at as choices: the net passes, although no sequence is valid in "
          "it, as 1 takes both 0 and 2, and 2 takes 1.")
     ok("fresh 0 0 3")

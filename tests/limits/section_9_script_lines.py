@@ -6,7 +6,7 @@ Without its fault a line would be a command, most of which would change a regist
 from calls import peek, read_f, same
 from files import log_file
 from limits import BUFFER_BYTES, BUFFER_WORDS, MAX_64, POSITIONS, REGISTERS
-from record import WORDS, in_place, record
+from record import WORDS, fresh_record, in_place
 from script import no_command, note, ok, passed_over, say, section, shown, text
 
 LOG = log_file("12,0 1 3")
@@ -89,8 +89,8 @@ def words_of_a_record():
                f"peek 0 {MAX_64} 2", f"peek 0 2 {MAX_64}")
 
     note("The last word alone and the whole record are within the range.")
-    peek(2, last, 1, record(5, 9))
-    peek(3, 0, WORDS, record(0, 1))
+    peek(2, last, 1, fresh_record(5, 9))
+    peek(3, 0, WORDS, fresh_record(0, 1))
 
 
 def highest_numbers():

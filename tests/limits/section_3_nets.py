@@ -1,0 +1,118 @@
+"""The part of section 3 on fresh, put, containment and net check."""
+
+from bindings import fillers
+from calls import OUT, put_new, same
+from limits import ALL, LAST, MAX_32, NO_ACTIVITY, SETS
+from record import WORDS, in_length, out_length
+from script import note, ok, refused, say
+from wording import spelled_nth
+
+TOO_MANY = spelled_nth(SETS + 1)
+
+
+def write():
+    of_fresh()
+    of_put()
+    of_put_on_a_side()
+    of_containment()
+    of_net_check()
+
+
+def of_fresh():
+    note(f"Fresh, 1: start above {LAST}, end above {LAST}, both equal, and all at once. The fresh "
+         "net of 0 and 1 is returned.")
+    for ends in f"{NO_ACTIVITY} 5", f"5 {NO_ACTIVITY}", "5 5", "40 40", f"{MAX_32} {MAX_32}":
+        ok("copy 0 1")
+        refused(1, 0, f"fresh 0 {ends}")
+        same(0, 3)
+
+
+def of_put():
+    note("Put, 2: the record isn't orderly, as the end's output side lost the empty set. It comes "
+         "back as it was.")
+    ok("copy 0 1", f"poke 0 {out_length(3)} 0", "copy 2 0")
+    refused(2, 0, "put 0 0 1 2")
+    same(0, 2)
+
+    note(f"Put, 2 before 4, 5 and 12: the activity is above {LAST}, the empty set may not be "
+         "there, but the record isn't orderly.")
+    refused(2, 0, f"put 0 0 {NO_ACTIVITY} 2", "put 0 0 1 0", f"put 0 0 {NO_ACTIVITY} 0")
+
+    note("Put, 2: also where the set is already there.")
+    refused(2, 0, "put 0 0 1 1")
+    same(0, 2)
+
+    note(f"Put, 4: the activity is above {LAST}; the place is 0.")
+    ok("copy 0 1")
+    refused(4, 0, f"put 0 0 {NO_ACTIVITY} 2", f"put 0 1 {NO_ACTIVITY} 2")
+
+    note("Put, 4 before 5: the set is empty too.")
+    refused(4, 0, f"put 0 0 {NO_ACTIVITY} 0", f"put 0 1 {MAX_32} 0")
+    same(0, 1)
+
+
+def of_put_on_a_side():
+    note("Put, 5: the empty set on a side that may not hold it: an input and an output side of 1, "
+         "the start's output side, the end's input side.")
+    refused(5, 0, "put 0 0 1 0", "put 0 1 1 0", "put 0 1 0 0", "put 0 0 3 0")
+
+    note("Put, 5: also on the sides of an activity that has no set yet.")
+    refused(5, 0, f"put 0 0 {LAST} 0", f"put 0 1 {LAST} 0")
+    same(0, 1)
+
+    note("Put, 5: another set on a side that must hold only the empty set.")
+    refused(5, 0, "put 0 0 0 2", f"put 0 0 0 {ALL}", "put 0 1 3 2", "put 0 1 3 1")
+    same(0, 1)
+
+    note("The empty set on those two sides is no fault.")
+    say("put 0 0 0 0", "ok 0")
+    say("put 0 1 3 0", "ok 0")
+    same(0, 1)
+
+    *fitting, too_many = fillers(SETS, lowest=9)  # F has 8 there.
+    note(f"Put, 12: a {TOO_MANY} set. The place is 0 and the net is unchanged.")
+    put_new(0, OUT, 1, *fitting)
+    say(f"peek 0 {out_length(1)} 1", f"words {SETS}")
+    ok("copy 2 0")
+    refused(12, 0, f"put 0 1 1 {too_many}")
+    same(0, 2)
+
+    note(f"Put, 5 before 12: the empty set would be a {TOO_MANY} too.")
+    refused(5, 0, "put 0 1 1 0")
+    same(0, 2)
+
+
+def of_containment():
+    note("Containment, 2: the first net, place 1; the second, place 2; both, 1. No answer of yes "
+         "or no comes before.")
+    ok("copy 0 1", f"poke 0 {in_length(0)} 0")
+    refused(2, 1, "contained 0 1")
+    refused(2, 2, "contained 1 0")
+    refused(2, 1, "contained 0 0")
+    ok("copy 2 1", f"poke 2 {out_length(3)} 0")
+    refused(2, 1, "contained 0 2", "contained 2 0")
+
+    note("Containment, 2: the starts and ends differ and the answer would be no, but the second "
+         "net isn't orderly.")
+    refused(2, 2, "contained 3 0")
+    refused(2, 1, "contained 0 3")
+
+
+def of_net_check():
+    note("Net check, 2: the record isn't orderly.")
+    refused(2, 0, "check 0")
+
+    note("Net check, 2 before 6: it would fail the walks too.")
+    ok("fresh 0 5 9")
+    refused(6, 5, "check 0")
+    ok(f"poke 0 {WORDS - 1} 1")
+    refused(2, 0, "check 0")
+
+    note("Net check, 6: the lowest activity on no walk is returned.")
+    ok("fresh 0 9 5")
+    refused(6, 5, "check 0")
+    ok("copy 0 1")
+    put_new(0, OUT, 1, 512)
+    refused(6, 9, "check 0")
+    put_new(0, OUT, 1, 32)
+    refused(6, 5, "check 0")

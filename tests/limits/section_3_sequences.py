@@ -1,0 +1,223 @@
+"""The part of section 3 on judge, learn, follow and replay.
+
+A lower number comes first, wherever in the sequence or trace it holds.
+"""
+
+from bindings import fillers, repeated
+from calls import IN, OUT, disorderly_f, put_new, same
+from limits import BUFFER_WORDS, LAST, MAX_32, NO_ACTIVITY, POSITIONS, SETS
+from script import note, ok, refused
+
+
+def write():
+    of_judge()
+    of_judge_on_positions()
+    of_learn()
+    of_learn_on_positions()
+    of_learn_on_a_full_side()
+    of_follow()
+    of_replay()
+
+
+def too_many_positions(position):
+    return repeated(position, POSITIONS + 1)
+
+
+def of_judge():
+    note("Judge, 2: the record isn't orderly; the sequence is valid in F.")
+    disorderly_f()
+    refused(2, 0, "judge 0 0 0 2 1 1 8 3 2 0")
+
+    note("Judge, 2 before 3, 4, 6, 7.")
+    refused(2, 0, "judge 0 0 0", f"judge 0 {NO_ACTIVITY} 0 2 1 1 8 3 2 0", "judge 0")
+
+    note("Judge, 3: the words aren't a multiple of three; 3 before 4 and 6.")
+    refused(3, 0, "judge 1 0 0 2 1", f"judge 1 {NO_ACTIVITY} 0 2 1", f"judge 3 {NO_ACTIVITY}",
+            f"judge 1 {too_many_positions(f'{NO_ACTIVITY} 0 0')}",
+            f"judge 3 {too_many_positions('0 0 0')}")
+
+    note(f"Judge, 4: the first position whose activity is above {LAST}; 4 before 6, 7, 8.")
+    refused(4, 2, f"judge 1 0 0 2 {NO_ACTIVITY} 1 8 {NO_ACTIVITY + 1} 2 0")
+    refused(4, 3, f"judge 1 0 0 2 1 1 8 {NO_ACTIVITY} 2 0")
+    refused(4, 1, f"judge 1 {NO_ACTIVITY} 0 2 1 1 8 3 2 0", f"judge 1 {NO_ACTIVITY} 0 0")
+    refused(4, 2, f"judge 3 0 0 2 {NO_ACTIVITY} 1 2 1 1 0")
+    refused(4, 3, f"judge 1 0 5 9 1 1 8 {NO_ACTIVITY} 2 0")
+
+    note(f"Judge, 4: at position {POSITIONS}, although the first activity isn't the start.")
+    refused(4, POSITIONS, f"judge 1 {repeated('1 1 8', POSITIONS - 1)} {NO_ACTIVITY} 2 0")
+
+    note("Judge, 6: the net doesn't pass; 6 before 7 and 8. The fresh net of 0 and 1 has no arc, "
+         "so 0 is on no walk.")
+    refused(6, 0, "judge 3 0 0 2 1 1 0", "judge 3", "judge 3 0 0 2", "judge 3 5 5 5 5 5 5")
+    ok("copy 0 1")
+    put_new(0, OUT, 1, 512)
+    refused(6, 9, "judge 0 0 0 2 1 1 8 3 2 0")
+
+
+def of_judge_on_positions():
+    note("Judge, 7: under two positions, no position too.")
+    refused(7, 0, "judge 1", "judge 1 0 0 2", "judge 1 3 2 0")
+
+    note("Judge, 7: the start isn't first, the end isn't last, one of them occurs elsewhere.")
+    refused(7, 0, "judge 1 1 1 8 3 2 0", "judge 1 0 0 2 1 1 8", "judge 1 0 0 2 0 0 2 1 1 8 3 2 0",
+            "judge 1 0 0 2 3 2 0 1 1 8 3 2 0", "judge 1 3 2 0 1 1 8 0 0 2")
+
+    note("Judge, 7 before 8: sets that aren't in the net besides.")
+    refused(7, 0, "judge 1 1 5 9 3 9 9", "judge 1 0 0 99 1 1 8 0 0 0")
+
+    note("Judge, 8: the first position whose X or Y isn't in the net.")
+    refused(8, 1, "judge 1 0 0 8 1 1 8 3 2 0")
+    refused(8, 2, "judge 1 0 0 2 1 2 8 3 8 0")
+    refused(8, 3, "judge 1 0 0 2 1 1 8 3 8 0")
+
+    note("Judge, 8 before 10, wherever they are: the binding at position 2 isn't possible, as (0, "
+         "2) isn't due, and at position 3 the set 8 isn't in the net.")
+    refused(8, 3, "judge 1 0 0 2 2 1 8 3 8 0")
+
+    note("Judge, 8 before 11: (0, 1) stays due, and at position 3 Y isn't in the net.")
+    refused(8, 3, "judge 1 0 0 6 2 1 8 3 4 1")
+
+    note("Judge, 10: the first binding that isn't possible; 10 before 11.")
+    refused(10, 2, "judge 1 0 0 2 2 1 8 3 4 0")
+    refused(10, 3, "judge 1 0 0 2 1 1 8 3 4 0", "judge 1 0 0 6 1 1 8 3 4 0")
+
+    note("Judge, 11: the last state isn't zero.")
+    refused(11, 0, "judge 1 0 0 6 1 1 8 3 2 0", "judge 1 0 0 6 2 1 8 3 4 0")
+
+
+def of_learn():
+    note("Learn, 2: the record isn't orderly, and comes back as it was, also with a sequence "
+         "whose sets are all there.")
+    disorderly_f()
+    ok("copy 2 0")
+    refused(2, 0, "learn 0 0 0 2 1 1 8 3 2 0")
+    same(0, 2)
+    refused(2, 0, "learn 0 0 0 2 1 1 4 2 2 8 3 4 0")
+    same(0, 2)
+
+    note("Learn, 2 before 3, 4, 7, 9.")
+    refused(2, 0, "learn 0 0 0", f"learn 0 {NO_ACTIVITY} 0 2 1 1 8 3 2 0", "learn 0",
+            "learn 0 0 1 2 3 2 0")
+    same(0, 2)
+
+    note("Learn, 3: the words aren't a multiple of three; 3 before 4 and 7.")
+    ok("fresh 0 0 3", "fresh 2 0 3")
+    refused(3, 0, "learn 0 0 0 2 1", f"learn 0 {NO_ACTIVITY} 0 2 1", "learn 0 5")
+    same(0, 2)
+    refused(3, 0, f"learn 0 {too_many_positions(f'{NO_ACTIVITY} 0 0')}",
+            f"learn 0 {too_many_positions('0 0 0')}")
+    same(0, 2)
+
+    note(f"Learn, 4: the first position whose activity is above {LAST}; 4 before 7, 9, 10.")
+    refused(4, 2, f"learn 0 0 0 2 {NO_ACTIVITY} 1 8 {NO_ACTIVITY + 1} 2 0")
+    refused(4, 3, f"learn 0 0 0 2 1 1 8 {NO_ACTIVITY} 2 0")
+    refused(4, 1, f"learn 0 {NO_ACTIVITY} 0 2 1 1 8 3 2 0", f"learn 0 {NO_ACTIVITY} 0 0")
+    refused(4, 3, f"learn 0 5 1 0 5 0 0 {NO_ACTIVITY} 0 0")
+    same(0, 2)
+    refused(4, POSITIONS, f"learn 0 {repeated('1 1 8', POSITIONS - 1)} {NO_ACTIVITY} 2 0")
+
+
+def of_learn_on_positions():
+    note("Learn, 7: under two positions, or start and end aren't first, last and nowhere else; 7 "
+         "before 9.")
+    refused(7, 0, "learn 0", "learn 0 0 0 2", "learn 0 0 0 0", "learn 0 3 2 0",
+            "learn 0 1 0 8 3 2 0", "learn 0 0 0 2 1 1 8", "learn 0 0 0 2 0 1 2 1 1 8 3 2 0",
+            "learn 0 0 0 2 3 1 2 1 1 8 3 2 0", "learn 0 3 0 2 1 8 1 0 2 0", "learn 0 1 0 0 1 0 0",
+            "learn 0 0 1 0 0 1 0")
+    same(0, 2)
+
+    note("Learn, 9: the first position whose X or Y is empty or filled where it may not be.")
+    refused(9, 1, "learn 0 0 1 2 1 1 8 3 2 0")
+    refused(9, 2, "learn 0 0 0 2 1 0 8 3 2 0")
+    refused(9, 3, "learn 0 0 0 2 1 1 8 3 2 1")
+    same(0, 2)
+
+    note("Learn, 9 before 10, wherever they are: position 2 isn't possible, as (0, 2) isn't due, "
+         "and at position 3 X is empty.")
+    refused(9, 3, "learn 0 0 0 2 2 1 8 1 0 8 3 4 0", "learn 0 0 0 2 2 1 8 3 4 8")
+
+    note("Learn, 9 before 11: (0, 2) stays due, and the last Y is filled.")
+    refused(9, 3, "learn 0 0 0 6 1 1 8 3 2 8")
+
+    note("Learn, 10: the first binding that isn't possible; 10 before 11.")
+    refused(10, 2, "learn 0 0 0 2 2 1 8 3 4 0")
+    refused(10, 3, "learn 0 0 0 2 1 1 8 3 4 0", "learn 0 0 0 6 1 1 8 3 4 0")
+    same(0, 2)
+
+    note("Learn, 11: the last state isn't zero.")
+    refused(11, 0, "learn 0 0 0 6 1 1 8 3 2 0", "learn 0 0 0 6 2 1 8 3 4 0")
+    same(0, 2)
+
+
+def of_learn_on_a_full_side():
+    note("Learn, 12: the output side of 0 is full. The numbers before 12 come first: 3, 4, 7, 9, "
+         "10, 11.")
+    put_new(0, OUT, 0, *fillers(SETS))
+    ok("copy 2 0")
+    refused(12, 0, "learn 0 0 0 2 1 1 8 3 2 0")
+    refused(3, 0, "learn 0 0 0 2 1 1 8 3 2")
+    refused(4, 3, f"learn 0 0 0 2 1 1 8 {NO_ACTIVITY} 2 0")
+    refused(7, 0, "learn 0 0 0 2 1 1 8 4 2 0")
+    refused(9, 3, "learn 0 0 0 2 1 1 8 3 2 1")
+    refused(10, 3, "learn 0 0 0 2 1 1 8 3 4 0")
+    refused(11, 0, "learn 0 0 0 6 1 1 8 3 2 0")
+    same(0, 2)
+
+    note("Follow, 7 before 12: the same full side, and the end isn't last.")
+    refused(12, 0, "follow 0 0 1 3")
+    refused(7, 0, "follow 0 0 1")
+    refused(4, 2, f"follow 0 0 {NO_ACTIVITY} 3")
+    same(0, 2)
+
+
+def of_follow():
+    too_long = repeated(f"{NO_ACTIVITY}", POSITIONS + 1)
+
+    note("Follow, 2: the record isn't orderly, and comes back as it was.")
+    disorderly_f()
+    ok("copy 2 0")
+    refused(2, 0, "follow 0 0 1 3", "follow 0 0 1 2 3", f"follow 0 {NO_ACTIVITY}", "follow 0",
+            f"follow 0 {too_long}")
+    same(0, 2)
+
+    note(f"Follow, 3 before 4: {POSITIONS + 1} entries, all above {LAST}.")
+    ok("fresh 0 0 3", "fresh 2 0 3")
+    refused(3, 0, f"follow 0 {too_long}", f"follow 0 {repeated('1', POSITIONS + 1)}")
+
+    note(f"Follow, 4: the first position above {LAST}, {POSITIONS} here; 4 before 7.")
+    refused(4, POSITIONS, f"follow 0 {repeated('1', POSITIONS - 1)} {NO_ACTIVITY}")
+    refused(4, 1, f"follow 0 {NO_ACTIVITY}")
+    refused(4, 2, f"follow 0 0 {NO_ACTIVITY + 1} {NO_ACTIVITY} 3")
+    refused(4, 1, f"follow 0 {MAX_32} 3")
+
+    note("Follow, 7: under two entries, or start and end aren't first, last and nowhere else.")
+    refused(7, 0, "follow 0", "follow 0 0", "follow 0 3", "follow 0 1 3", "follow 0 0 1",
+            "follow 0 0 0 3", "follow 0 0 3 3", "follow 0 0 1 0 1 3", "follow 0 0 1 3 1 3",
+            "follow 0 3 1 0", "follow 0 0 0", "follow 0 3 3")
+    same(0, 2)
+
+
+def of_replay():
+    note("Replay, 2: the record isn't orderly; 2 before 3, 4 and before none.")
+    disorderly_f()
+    refused(2, 0, "replay 0 100 9 0 1 3", "replay 0 100 8 0 1 3",
+            f"replay 0 100 9 0 {NO_ACTIVITY} 3", "replay 0 100 0", "replay 0 0 9 0 1 3")
+
+    note("Replay, 3: the buffer is shorter than three words a position; 3 before 4 and 6.")
+    refused(3, 0, "replay 1 100 8 0 1 3", f"replay 1 100 8 0 {NO_ACTIVITY} 3",
+            "replay 3 100 5 0 1", f"replay 1 100 2 {NO_ACTIVITY}",
+            f"replay 1 100 {BUFFER_WORDS} {repeated(f'{NO_ACTIVITY}', POSITIONS + 1)}")
+
+    note(f"Replay, 4: the first position above {LAST}; 4 before 6 and before none.")
+    refused(4, 2, f"replay 1 100 9 0 {NO_ACTIVITY} {NO_ACTIVITY + 1}")
+    refused(4, 1, f"replay 1 100 3 {NO_ACTIVITY}")
+    refused(4, 3, f"replay 1 100 9 1 1 {NO_ACTIVITY}")
+    refused(4, 2, f"replay 3 100 9 0 {NO_ACTIVITY} 1", f"replay 1 0 9 0 {NO_ACTIVITY} 3")
+
+    note("Replay, 6: the net doesn't pass, and this comes before none and spent.")
+    refused(6, 0, "replay 3 100 6 0 1", "replay 3 100 3 0", "replay 3 100 0", "replay 3 0 6 0 1")
+    ok("fresh 0 9 5")
+    refused(6, 5, "replay 0 100 6 9 5")
+    ok("copy 0 1")
+    put_new(0, IN, 2, 2048)
+    refused(6, 11, "replay 0 100 9 0 1 3", "replay 0 100 9 1 1 1")
