@@ -18,7 +18,7 @@ def repeated(part, times):
 
 
 def loop(positions):
-    """A well-formed sequence of any length from 4 on, always with the same sets."""
+    """A well-formed sequence of any length from 5 on, always with the same sets."""
     return f"0 0 2 1 1 2 {repeated('1 2 2', positions - 4)} 1 2 8 3 2 0"
 
 
@@ -28,5 +28,5 @@ def loop_trace(entries):
 
 
 def fillers(number, lowest=16):
-    """So many sets for a side that don't occur in a sequence whose sets are below the lowest."""
+    """So many sets to fill a side with, which no sequence has whose sets are below the lowest."""
     return range(lowest, lowest + number)

@@ -2,7 +2,7 @@
 
 ACTIVITIES = 32  # Activities are numbers 0 to 31; a set of them is a mask of so many bits.
 SETS = 16  # The most sets on a side of an activity.
-POSITIONS = 64  # The longest sequence or trace; also the words that a row's buffer needs.
+POSITIONS = 64  # The most positions of a sequence or trace; the words that a row's buffer needs.
 NET_BYTES = 131_072
 LOG_BYTES = 524_288
 LOG_ROWS = 1_000
@@ -19,4 +19,4 @@ NO_ACTIVITY = ACTIVITIES  # The lowest number that is none.
 ALL = 2**ACTIVITIES - 1  # The set of all activities.
 MAX_32 = 2**32 - 1
 MAX_64 = 2**64 - 1
-DIGITS = 400  # Digits of a number that no width of a machine's words holds.
+DIGITS = 400  # So many digits that no machine's numbers hold the value.

@@ -3,7 +3,7 @@
 from bindings import FIG_4
 from calls import IN, OUT, peek, put_new, row, same
 from files import F_FILE, log_file
-from limits import ACTIVITIES, LAST
+from limits import ACTIVITIES, LAST, SESSIONS
 from record import WORDS, fresh_record, in_length, in_place, out_length, out_place, record
 from script import note, ok, refused, say, section, shown, text
 
@@ -237,9 +237,9 @@ def files():
     same(0, 2)
 
     note("Reading rows of the log of the paper: a row, another row, and the end past the last.")
-    text(log_file("12,0 1 3", "1000000,0 3"))
+    text(log_file("12,0 1 3", f"{SESSIONS},0 3"))
     row(1, "row 12 3 0 1 3")
-    row(2, "row 1000000 2 0 3")
+    row(2, f"row {SESSIONS} 2 0 3")
     row(3, "end")
 
     note("A trace may be empty.")

@@ -1,7 +1,7 @@
 """The part of section 2 on files: their bytes, the writer's buffer, the numbers of a net file."""
 
 from bindings import words
-from calls import row, same
+from calls import read_f, row, same
 from files import F_FILE, log_file, net_file
 from limits import (
     ACTIVITIES, ALL, BUFFER_BYTES, DIGITS, LAST, LOG_BYTES, MAX_32, NET_BYTES, NO_ACTIVITY,
@@ -91,8 +91,7 @@ def buffer_of_the_writer():
         shown(net_file(0, 1))
 
     note("15: the same for F, with 130 bytes.")
-    text(F_FILE)
-    ok("readnet 0")
+    read_f(0)
     text("kept")
     refused(15, 0, "writenet 0 129")
     shown("kept")

@@ -1,10 +1,9 @@
 """The part of section 2 on sequences and traces: their length, and what a replay is given."""
 
 from bindings import loop, loop_trace
-from calls import same
-from files import F_FILE
+from calls import read_f, same
 from limits import BUFFER_WORDS, MAX_64, POSITIONS
-from script import note, ok, refused, say, text
+from script import note, ok, refused, say
 
 
 def write():
@@ -106,8 +105,7 @@ def words_of_a_sequence():
 def buffer_of_replay():
     note("3: replay needs three words a position. For 0 1 3 on F 8 words are too few, 9 are "
          "enough, and more are left untouched.")
-    text(F_FILE)
-    ok("readnet 0")
+    read_f(0)
     refused(3, 0, "replay 0 100 8 0 1 3")
     for buffer in 9, 10, BUFFER_WORDS:
         say(f"replay 0 100 {buffer} 0 1 3", "found 3 0 0 2 1 1 8 3 2 0")

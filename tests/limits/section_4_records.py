@@ -71,6 +71,7 @@ START_AND_END = (
 
 
 def a_length_too_high():
+    # The sets are 1, 2 and so on; 16 is among them, which the last note needs.
     all_places = [(in_place(5, place), place + 1) for place in range(SETS)]
     disorderly(f"A length of {SETS + 1} on the input side of 5 with {spelled(SETS)} ascending sets "
                f"there: a list has at most {SETS} sets.",
