@@ -2,26 +2,29 @@
 // the input lists and of the output lists by activity, the input masks and the output masks.
 
 use crate::answer::Answer;
+use net::LISTS;
 use net::Net;
+use net::PLACES;
 ghost use Prim.Native.Nat.{_+_, _*_, _≤_, _<_};
 ghost use mathlib.Core.Path.{_≡_};
 ghost use lib.ListN.{length};
 
 pub const REGISTERS: u32 = 4;
 
-// A record has this many words.
-const WORDS: u32 = 1090;
-
-// The words of all registers.
-pub const RECORDS: usize = 4360;
-
+// Where a record's arrays stand among its words, behind its start and its end.
 const INPUT_LEN: usize = 2;
 
-const OUTPUT_LEN: usize = 34;
+const OUTPUT_LEN: usize = INPUT_LEN + LISTS;
 
-const INPUTS: usize = 66;
+const INPUTS: usize = OUTPUT_LEN + LISTS;
 
-const OUTPUTS: usize = 578;
+const OUTPUTS: usize = INPUTS + PLACES;
+
+// A record has this many words.
+const WORDS: u32 = (OUTPUTS + PLACES) as u32;
+
+// The words of all registers.
+pub const RECORDS: usize = (REGISTERS * WORDS) as usize;
 
 // Where register r stands.
 fn place(r: u32) -> usize
@@ -36,14 +39,14 @@ pub fn load(records: &[u32; RECORDS], r: u32) -> Net
     requires { ⌜ r < 4 ⌝ }
 {
     let at = place(r);
-    let mut input_len = [0u32; 32];
-    let mut output_len = [0u32; 32];
-    let mut inputs = [0u32; 512];
-    let mut outputs = [0u32; 512];
-    copy_words(records, at + INPUT_LEN, &mut input_len, 0, 32);
-    copy_words(records, at + OUTPUT_LEN, &mut output_len, 0, 32);
-    copy_words(records, at + INPUTS, &mut inputs, 0, 512);
-    copy_words(records, at + OUTPUTS, &mut outputs, 0, 512);
+    let mut input_len = [0u32; LISTS];
+    let mut output_len = [0u32; LISTS];
+    let mut inputs = [0u32; PLACES];
+    let mut outputs = [0u32; PLACES];
+    copy_words(records, at + INPUT_LEN, &mut input_len, 0, LISTS);
+    copy_words(records, at + OUTPUT_LEN, &mut output_len, 0, LISTS);
+    copy_words(records, at + INPUTS, &mut inputs, 0, PLACES);
+    copy_words(records, at + OUTPUTS, &mut outputs, 0, PLACES);
     Net {
         start: records[at],
         end: records[at + 1],
@@ -61,10 +64,10 @@ pub fn store(records: &mut [u32; RECORDS], r: u32, net: Net)
     let at = place(r);
     records[at] = net.start;
     records[at + 1] = net.end;
-    copy_words(&net.input_len, 0, records, at + INPUT_LEN, 32);
-    copy_words(&net.output_len, 0, records, at + OUTPUT_LEN, 32);
-    copy_words(&net.inputs, 0, records, at + INPUTS, 512);
-    copy_words(&net.outputs, 0, records, at + OUTPUTS, 512);
+    copy_words(&net.input_len, 0, records, at + INPUT_LEN, LISTS);
+    copy_words(&net.output_len, 0, records, at + OUTPUT_LEN, LISTS);
+    copy_words(&net.inputs, 0, records, at + INPUTS, PLACES);
+    copy_words(&net.outputs, 0, records, at + OUTPUTS, PLACES);
 }
 
 // Each register becomes the fresh net of 0 and 1.

@@ -10,21 +10,28 @@ pub mod refusal;
 
 pub use containment::contained;
 pub use making::fresh;
+use obligations::ACTIVITIES;
 pub use orderly::is_orderly;
 pub use putting::put;
 
 // A side holds at most this many sets.
 pub const SETS: u32 = 16;
 
+// A kind of side has a list for each activity.
+pub const LISTS: usize = ACTIVITIES as usize;
+
+// The places of the sets in all lists of a kind of side.
+pub const PLACES: usize = (ACTIVITIES * SETS) as usize;
+
 // A net: for each activity a an input side and an output side. The sets of a's input side are the first input_len[a]
 // places of inputs from 16 * a on, and those of its output side likewise.
 pub struct Net {
     pub start: u32,
     pub end: u32,
-    pub inputs: [u32; 512],
-    pub outputs: [u32; 512],
-    pub input_len: [u32; 32],
-    pub output_len: [u32; 32],
+    pub inputs: [u32; PLACES],
+    pub outputs: [u32; PLACES],
+    pub input_len: [u32; LISTS],
+    pub output_len: [u32; LISTS],
 }
 
 // The two sides of an activity.

@@ -2,7 +2,9 @@
 
 use crate::FreshAnswer;
 use crate::FreshResult;
+use crate::LISTS;
 use crate::Net;
+use crate::PLACES;
 use crate::orderly::ends_ok;
 use crate::refusal;
 ghost use mathlib.Core.Path.{_≡_};
@@ -37,9 +39,9 @@ fn fresh_net(start: u32, end: u32) -> Net
     requires { ⌜ (start < activities) × (end < activities) ⌝ }
     ensures { λ r. ⌜ r ≡ freshNet start end ⌝ }
 {
-    let none = [0u32; 512];
-    let mut input_len = [0u32; 32];
-    let mut output_len = [0u32; 32];
+    let none = [0u32; PLACES];
+    let mut input_len = [0u32; LISTS];
+    let mut output_len = [0u32; LISTS];
     input_len[start as usize] = 1;
     output_len[end as usize] = 1;
     Net {

@@ -1,6 +1,8 @@
 // Put: one set added to one side (paper 01, "The net and its sets").
 
+use crate::LISTS;
 use crate::Net;
+use crate::PLACES;
 use crate::PutAnswer;
 use crate::PutResult;
 use crate::SETS;
@@ -81,8 +83,8 @@ fn put_orderly(mut net: Net, side: Side, a: u32, m: u32) -> PutResult
 
 // Puts m on activity a's side, in the arrays of the sides of one kind, where the side of `empty` holds just the empty set.
 pub fn put_side(
-    masks: &mut [u32; 512],
-    lengths: &mut [u32; 32],
+    masks: &mut [u32; PLACES],
+    lengths: &mut [u32; LISTS],
     empty: u32,
     a: u32,
     m: u32,

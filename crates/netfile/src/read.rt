@@ -7,7 +7,9 @@ use crate::line::EndLine;
 use crate::line::RowLine;
 use crate::line::end_line;
 use crate::line::row_line;
+use net::LISTS;
 use net::Net;
+use net::PLACES;
 use net::PutAnswer;
 use net::Side;
 use net::fresh;
@@ -117,7 +119,7 @@ fn read_rows(text: &[u8], at: usize, mut net: Net) -> NetReading
 }
 
 // Put: the set was put, or was there. Refused: the refusal's number.
-pub enum RowPut {
+enum RowPut {
     Put,
     Refused(u32),
 }
@@ -126,10 +128,10 @@ pub enum RowPut {
 fn put_row(
     start: u32,
     end: u32,
-    inputs: &mut [u32; 512],
-    input_len: &mut [u32; 32],
-    outputs: &mut [u32; 512],
-    output_len: &mut [u32; 32],
+    inputs: &mut [u32; PLACES],
+    input_len: &mut [u32; LISTS],
+    outputs: &mut [u32; PLACES],
+    output_len: &mut [u32; LISTS],
     row: RowLine,
 ) -> RowPut
     requires { ⌜ orderly (netOf start end (now inputs) (now «input_len») (now outputs) (now «output_len»)) ≡ true ⌝ }

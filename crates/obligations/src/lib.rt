@@ -10,7 +10,10 @@ pub mod trace;
 pub const ACTIVITIES: u32 = 32;
 
 // The pairs (p, q) of activities: how many counts a state has.
-pub const PAIRS: usize = 1024;
+pub const PAIRS: usize = (ACTIVITIES * ACTIVITIES) as usize;
 
 // A sequence or a trace has at most this many positions.
 pub const POSITIONS: usize = 64;
+
+// The words of the longest sequence, three a position.
+pub const SEQUENCE_WORDS: usize = 3 * POSITIONS;

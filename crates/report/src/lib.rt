@@ -15,6 +15,7 @@ use netfile::NetReading;
 use netfile::read_net;
 use netfile::refused_reading;
 use obligations::POSITIONS;
+use obligations::SEQUENCE_WORDS;
 use search::replay_lent;
 use text::bytes::write_bytes;
 use walks::CheckAnswer;
@@ -32,9 +33,6 @@ ghost use Rattle.report.specs.Report.{reportRoom, rowsText, logText, rea
 
 // Each of the two files has at most this many bytes.
 pub const FILE_BYTES: usize = 65536;
-
-// The words of the longest sequence, three a position.
-const SEQUENCE_WORDS: usize = 3 * POSITIONS;
 
 // A buffer of this many bytes has room for every report.
 pub const REPORT_ROOM: usize = 32768;

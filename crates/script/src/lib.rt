@@ -27,7 +27,7 @@ ghost use Prim.Native.Nat.{_≤_, _<_};
 ghost use lib.ListN.{length};
 
 // A script has at most this many bytes.
-pub const SCRIPT_BYTES: usize = 4194304;
+const SCRIPT_BYTES: usize = 4194304;
 
 // Runs the script on standard input and writes its answers to standard output.
 pub fn run_script() {

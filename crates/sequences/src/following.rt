@@ -8,6 +8,7 @@ use crate::limits::trace_limits;
 use net::Net;
 use net::is_orderly;
 use net::refusal;
+use obligations::SEQUENCE_WORDS;
 use obligations::sets::single;
 use obligations::trace::is_shaped;
 ghost use mathlib.Core.Path.{_≡_};
@@ -44,14 +45,14 @@ fn follow_positions(net: Net, trace: &[u32], n: usize) -> LearnResult
     if !is_shaped(trace, 1, n, net.start, net.end) {
         return refuse(net, refusal::WRONG_ENDS, 0);
     }
-    let mut sequence = [0u32; 192];
+    let mut sequence = [0u32; SEQUENCE_WORDS];
     write_followed(trace, n, &mut sequence);
     let end = 3 * n;
     gain(net, &sequence[..end], n)
 }
 
 // Writes the trace's sequence to the front of the buffer.
-fn write_followed(trace: &[u32], n: usize, out: &mut [u32; 192])
+fn write_followed(trace: &[u32], n: usize, out: &mut [u32; SEQUENCE_WORDS])
     requires { ⌜ TraceWithinLimits (now trace) n ⌝ }
     ensures { λ _. ⌜ now (out .exit) ≡ sets (now (out .entry)) 0 (words (followed (now (trace .entry)))) ⌝ }
 {

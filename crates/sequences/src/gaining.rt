@@ -2,7 +2,9 @@
 
 use crate::LearnAnswer;
 use crate::LearnResult;
+use net::LISTS;
 use net::Net;
+use net::PLACES;
 use net::PutAnswer;
 use net::putting::put_side;
 use net::refusal;
@@ -80,7 +82,13 @@ pub fn refuse(net: Net, number: u32, place: u32) -> LearnResult
 }
 
 // Puts m on activity a's side and answers how many sets that adds.
-fn gain_set(masks: &mut [u32; 512], lengths: &mut [u32; 32], empty: u32, a: u32, m: u32) -> Gained
+fn gain_set(
+    masks: &mut [u32; PLACES],
+    lengths: &mut [u32; LISTS],
+    empty: u32,
+    a: u32,
+    m: u32,
+) -> Gained
     requires { ⌜ (length (now masks) ≡ places) × (length (now lengths) ≡ activities) ⌝ }
     requires { ⌜ (a < activities) × (getD (now lengths) a 0 ≤ sets) ⌝ }
     ensures { λ r. ⌜ SetGained (now (masks .entry)) (now (lengths .entry)) empty a m r (now (masks .exit)) (now (lengths .exit)) ⌝ }

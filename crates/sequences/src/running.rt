@@ -1,6 +1,7 @@
 // A sequence run from the state in which nothing is due, for judge and learn.
 
 use crate::Ran;
+use obligations::PAIRS;
 use obligations::sets::size;
 use obligations::state::step;
 ghost use mathlib.Core.Path.{_≡_};
@@ -15,7 +16,7 @@ pub fn run(words: &[u32], n: usize) -> Ran
     requires { ⌜ WithinLimits (now words) n ⌝ }
     ensures { λ r. ⌜ r ≡ ran (bindings (now (words .entry))) ⌝ }
 {
-    let mut due = [0u8; 1024];
+    let mut due = [0u8; PAIRS];
     let mut total: u32 = 0;
     let mut peak: u32 = 0;
     let mut i: usize = 0;

@@ -1,5 +1,6 @@
 // The arcs of a net, as rows of sets: row a is a set of activities, those that stand in some relation to a.
 
+use net::LISTS;
 use net::SETS;
 use obligations::ACTIVITIES;
 use obligations::sets;
@@ -26,11 +27,11 @@ pub fn union_of(masks: &[u32]) -> u32
 }
 
 // For each activity the set of those that are named on its side.
-pub fn named_rows<'a>(masks: &'a [u32], lengths: &'a [u32]) -> [u32; 32]
+pub fn named_rows<'a>(masks: &'a [u32], lengths: &'a [u32]) -> [u32; LISTS]
     requires { ⌜ Sides (now masks) (now lengths) ⌝ }
     ensures { λ r. ⌜ r ≡ namedRows (now (masks .entry)) (now (lengths .entry)) ⌝ }
 {
-    let mut rows = [0u32; 32];
+    let mut rows = [0u32; LISTS];
     let mut a: u32 = 0;
     while a < ACTIVITIES {
         let i = a as usize;
@@ -69,11 +70,11 @@ fn without_lowest(set: u32) -> u32
 
 // For each activity a the members b of its own row such that a is in the other row of b. From outputs to inputs these are
 // the activities one arc on, and from inputs to outputs those one arc back.
-pub fn links<'a>(own: &'a [u32], other: &'a [u32]) -> [u32; 32]
+pub fn links<'a>(own: &'a [u32], other: &'a [u32]) -> [u32; LISTS]
     requires { ⌜ (length (now own) ≡ activities) × (length (now other) ≡ activities) ⌝ }
     ensures { λ r. ⌜ r ≡ links (now (own .entry)) (now (other .entry)) ⌝ }
 {
-    let mut rows = [0u32; 32];
+    let mut rows = [0u32; LISTS];
     let mut a: u32 = 0;
     while a < ACTIVITIES {
         let i = a as usize;
