@@ -13,11 +13,13 @@ fn main() {
     // Cart makes address and payment due, and order waits for both.
     let proposed = [0, 0, 6, 1, 1, 8, 2, 1, 8, 3, 6, 0];
     let learned = sequences::learn(made.net, &proposed);
-    say_learned(learned.answer);
+    let answer = learned.answer;
+    say_learned(answer);
     // A session without an address: the goods are picked up.
     let session = [0, 2, 3];
     let followed = sequences::follow(learned.net, &session);
-    say_learned(followed.answer);
+    let again = followed.answer;
+    say_learned(again);
     let net = followed.net;
     say_checked(walks::check(net));
     let paid = [0, 2, 1, 3];
