@@ -31,14 +31,10 @@ def activities_of_fresh():
     say(f"peek 0 {in_length(LAST)} 2", "words 1 1")
 
     note(f"1: the start is {NO_ACTIVITY}; a refused fresh returns the fresh net of 0 and 1.")
-    refused(1, 0, f"fresh 0 {NO_ACTIVITY} 0")
-    same(0, 3)
+    refused_fresh(f"{NO_ACTIVITY} 0", f"{NO_ACTIVITY} {LAST}")
 
     note(f"1: the end is {NO_ACTIVITY}.")
-    for ends in f"0 {NO_ACTIVITY}", f"{LAST} {NO_ACTIVITY}", f"{NO_ACTIVITY} {LAST}":
-        ok("fresh 0 9 8")
-        refused(1, 0, f"fresh 0 {ends}")
-        same(0, 3)
+    refused_fresh(f"0 {NO_ACTIVITY}", f"{LAST} {NO_ACTIVITY}")
 
     note(f"1: the largest 32-bit numbers are above {LAST} too.")
     refused(1, 0, f"fresh 0 {MAX_32} 0", f"fresh 0 0 {MAX_32}")
@@ -48,6 +44,14 @@ def activities_of_fresh():
 
     note("1: start and end are equal at the border.")
     refused(1, 0, f"fresh 0 {LAST} {LAST}", "fresh 0 0 0")
+
+
+def refused_fresh(*ends):
+    """Starts and ends of which there is no fresh net; register 0 has another net to lose."""
+    for start_and_end in ends:
+        ok("fresh 0 9 8")
+        refused(1, 0, f"fresh 0 {start_and_end}")
+        same(0, 3)
 
 
 def activities_of_put():

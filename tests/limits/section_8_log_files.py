@@ -67,11 +67,15 @@ def headers():
 
 
 def line_ends():
-    note("Log, 13: lines that end in LF or CR alone are one long line.")
-    for line_end in "\n", "\r":
+    note("Log, 13: lines that all end in LF alone, in CR alone or in LF CR are one long line, which "
+         "differs from the header.")
+    for line_end in "\n", "\r", "\n\r":
         refused_row(13, 1, log_file("12,0 3").replace(CRLF, line_end))
+
+    note("Log, 13: the header ends in CR CR LF, or the file ends in a CR or an LF behind it.")
     refused_row(13, 1, lines(LOG_HEADER + "\r", "12,0 3"))
     refused_row(13, 1, LOG_HEADER + "\r")
+    refused_row(13, 1, LOG_HEADER + "\n")
 
 
 def commas():

@@ -117,9 +117,13 @@ def headers():
 
 
 def line_ends_of_the_header():
-    note("13: the header's line ends in LF alone, or CR alone, or CR CR LF, so the line differs.")
+    note("13: where all lines end in LF alone, in CR alone or in LF CR, the file is one long line, "
+         "which differs from the header.")
     for line_end in "\n", "\r", "\n\r":
         refused_net(13, 1, F_FILE.replace(CRLF, line_end))
+
+    note("13: the header ends in CR CR LF, or the file ends in a CR or an LF behind it, so the "
+         "line has a byte too many.")
     refused_net(13, 1, F_FILE.replace(NET_HEADER, NET_HEADER + "\r"))
     refused_net(13, 1, NET_HEADER + "\r")
     refused_net(13, 1, NET_HEADER + "\n")
