@@ -3,7 +3,7 @@
 from bindings import words
 from files import F_FILE
 from limits import POSITIONS
-from record import in_place
+from record import WORDS, in_place
 from script import ok, refused, say, text
 
 IN = 0
@@ -33,6 +33,11 @@ def disorderly_f():
     It is the place behind the three sets of the input side of 3, which is no longer zero.
     """
     ok("copy 0 1", f"poke 0 {in_place(3, 3)} 7")
+
+
+def disorder(register):
+    """The record is no longer orderly: its last place, which no list uses, isn't zero."""
+    ok(f"poke {register} {WORDS - 1} 1")
 
 
 def peek(register, first, count, record):

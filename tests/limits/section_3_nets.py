@@ -1,9 +1,9 @@
 """The part of section 3 on fresh, put, containment and net check."""
 
 from bindings import fillers
-from calls import OUT, put_new, same
+from calls import OUT, disorder, put_new, same
 from limits import ALL, LAST, MAX_32, NO_ACTIVITY, SETS
-from record import WORDS, in_length, out_length
+from record import in_length, out_length
 from script import note, ok, refused, say
 from wording import spelled_nth
 
@@ -14,6 +14,7 @@ def write():
     of_fresh()
     of_put()
     of_put_on_a_side()
+    of_put_on_a_full_side()
     of_containment()
     of_net_check()
 
@@ -34,9 +35,10 @@ def of_put():
     refused(2, 0, "put 0 0 1 2")
     same(0, 2)
 
-    note(f"Put, 2 before 4, 5 and 12: the activity is above {LAST}, the empty set may not be "
-         "there, but the record isn't orderly.")
-    refused(2, 0, f"put 0 0 {NO_ACTIVITY} 2", "put 0 0 1 0", f"put 0 0 {NO_ACTIVITY} 0")
+    note(f"Put, 2 before 4 and 5: the activity is above {LAST}, the empty set may not be there, "
+         "another set may not be on the start's input side, but the record isn't orderly.")
+    refused(2, 0, f"put 0 0 {NO_ACTIVITY} 2", "put 0 0 1 0", f"put 0 0 {NO_ACTIVITY} 0",
+            "put 0 0 0 2")
 
     note("Put, 2: also where the set is already there.")
     refused(2, 0, "put 0 0 1 1")
@@ -46,7 +48,8 @@ def of_put():
     ok("copy 0 1")
     refused(4, 0, f"put 0 0 {NO_ACTIVITY} 2", f"put 0 1 {NO_ACTIVITY} 2")
 
-    note("Put, 4 before 5: the set is empty too.")
+    note(f"Put, 4 before 5: the set is empty too. An activity above {LAST} has no side that could "
+         "be full, so 12 never holds beside 4.")
     refused(4, 0, f"put 0 0 {NO_ACTIVITY} 0", f"put 0 1 {MAX_32} 0")
     same(0, 1)
 
@@ -69,6 +72,8 @@ def of_put_on_a_side():
     say("put 0 1 3 0", "ok 0")
     same(0, 1)
 
+
+def of_put_on_a_full_side():
     *fitting, too_many = fillers(SETS, lowest=9)  # F has 8 there.
     note(f"Put, 12: a {TOO_MANY} set. The place is 0 and the net is unchanged.")
     put_new(0, OUT, 1, *fitting)
@@ -77,8 +82,22 @@ def of_put_on_a_side():
     refused(12, 0, f"put 0 1 1 {too_many}")
     same(0, 2)
 
-    note(f"Put, 5 before 12: the empty set would be a {TOO_MANY} too.")
+    note(f"Put, 5 before 12: the empty set would be a {TOO_MANY} too. Beside the other half of 5 "
+         "12 never holds, as the two sides that must hold only the empty set are never full.")
     refused(5, 0, "put 0 1 1 0")
+    same(0, 2)
+
+    note("Put, 2 before 12: the same side is full, but the record isn't orderly; also where the "
+         "empty set would be 5, and where the set is already there.")
+    disorder(0)
+    ok("copy 2 0")
+    refused(2, 0, f"put 0 1 1 {too_many}", "put 0 1 1 0", f"put 0 1 1 {fitting[0]}")
+    same(0, 2)
+
+    note(f"Put, 2 before 12: the record isn't orderly just because the side's length is {SETS + 1} "
+         f"already, so that one more set would exceed {SETS}.")
+    ok("copy 0 1", f"poke 0 {in_length(5)} {SETS + 1}", "copy 2 0")
+    refused(2, 0, "put 0 0 5 2")
     same(0, 2)
 
 
@@ -105,7 +124,7 @@ def of_net_check():
     note("Net check, 2 before 6: it would fail the walks too.")
     ok("fresh 0 5 9")
     refused(6, 5, "check 0")
-    ok(f"poke 0 {WORDS - 1} 1")
+    disorder(0)
     refused(2, 0, "check 0")
 
     note("Net check, 6: the lowest activity on no walk is returned.")
