@@ -10,7 +10,9 @@ from limits import BUFFER_BYTES, LAST, NO_ACTIVITY, POSITIONS, SETS
 from script import note, refused, say, shown, text
 from wording import spelled_nth
 
-TOO_MANY = spelled_nth(SETS + 1)
+TOO_MANY = spelled_nth(SETS + 1)  # A set.
+TOO_LONG = repeated("1", POSITIONS + 1)  # A trace.
+SHORT = POSITIONS - 1  # A word less than a row's buffer needs.
 
 
 def write():
@@ -20,6 +22,8 @@ def write():
     of_net_reading_by_a_full_side()
     of_net_reading_on_one_line()
     of_row_reading()
+    of_row_reading_with_a_short_buffer()
+    of_row_reading_by_lines()
 
 
 def of_the_writer():
@@ -41,7 +45,8 @@ def of_net_reading_by_start_and_end():
     refused_net(1, 3, net_file(3, 3))
     refused_net(1, 3, net_file(0, 0))
 
-    note("Net reading, 1 on line 3 comes before 13, 14 and 5 on line 4.")
+    note("Net reading, 1 on line 3 comes before 13, 14 and 5 on line 4. As 1 is of line 3 alone, it "
+         "never stands on one line with 5 or 12.")
     refused_net(1, 3, net_file(3, 3, "x"))
     refused_net(1, 3, net_file(3, 3, f"in,{NO_ACTIVITY},1"))
     refused_net(1, 3, net_file(3, 3, "in,3,1"))
@@ -66,6 +71,11 @@ def of_net_reading_by_rows():
     for row_without_members in "in,0,", "out,3,", "in,1,", "out,1,":
         refused_net(13, 4, net_file(0, 3, row_without_members))
 
+    note("Net reading, 13 before 5: a comma too many in a row with a set for one of those two "
+         "sides.")
+    refused_net(13, 4, net_file(0, 3, "in,0,1,"))
+    refused_net(13, 4, net_file(0, 3, "out,3,1,2"))
+
     note(f"Net reading, 14 before 5: the members don't ascend, or one is above {LAST}.")
     refused_net(14, 4, net_file(0, 3, "in,0,2 1"))
     refused_net(14, 4, net_file(0, 3, "out,3,1 1"))
@@ -84,8 +94,12 @@ def of_net_reading_by_a_full_side():
     refused_net(14, line, net_file(0, 3, *full, f"in,1,{SETS} {SETS}"))
     refused_net(14, line, net_file(0, 3, *full, f"in,1,{NO_ACTIVITY}"))
 
-    note("Net reading: the first line with a fault decides, whatever the numbers are.")
+    note("Net reading, 5 before 12 can't be shown on one line: a side that must hold only the empty "
+         "set is never full. Across lines the first line with a fault decides, whatever the "
+         "numbers are.")
     refused_net(12, line, net_file(0, 3, *full, one_more, "x", "in,0,1"))
+    refused_net(5, line, net_file(0, 3, *full, "in,0,1", one_more))
+    refused_net(1, 3, net_file(0, 0, *full, one_more))
     refused_net(14, 4, net_file(0, 3, f"in,1,{NO_ACTIVITY}", "in,0,1", "x"))
     refused_net(5, 4, net_file(0, 3, "in,0,1", "x", f"in,1,{NO_ACTIVITY}"))
     refused_net(13, 4, net_file(0, 3, "x", f"in,1,{NO_ACTIVITY}", "in,0,1"))
@@ -107,21 +121,29 @@ def of_net_reading_on_one_line():
 
 
 def of_row_reading():
-    short = POSITIONS - 1
-    too_long = repeated("1", POSITIONS + 1)
-
     note("Row reading, 3 with line 0: the row asked for is 0 or the buffer is short, before the "
          "header is looked at.")
     text("nothing")
     row(0, "refused 3 0")
-    refused(3, 0, f"readrow 1 {short}", f"readrow 0 {short}")
+    refused(3, 0, f"readrow 1 {SHORT}", f"readrow 0 {SHORT}")
     row(1, "refused 13 1")
     row(7, "refused 13 1")
     text("")
     row(0, "refused 3 0")
-    refused(3, 0, f"readrow 1 {short}")
+    refused(3, 0, f"readrow 1 {SHORT}")
     row(1, "refused 13 1")
 
+
+def of_row_reading_with_a_short_buffer():
+    note("Row reading, 3 with line 0 before 13, 14 and 3 on line 2: the buffer is short, or the row "
+         "asked for is 0. These two and too many bytes are one answer, so their order isn't seen.")
+    for number, bad_row in (13, "1"), (14, f"1,{NO_ACTIVITY}"), (3, f"1,{TOO_LONG}"):
+        refused_row(number, 2, log_file(bad_row))
+        refused(3, 0, f"readrow 1 {SHORT}", "readrow 1 0", f"readrow 2 {SHORT}")
+        row(0, "refused 3 0")
+
+
+def of_row_reading_by_lines():
     note("Row reading: faults from the header to the row asked for count, and the first line with "
          "a fault decides; 14 on line 3, 13 on line 5.")
     text(log_file("1,0", f"1,{NO_ACTIVITY}", "1,2", "1", "1,4"))
@@ -131,13 +153,13 @@ def of_row_reading():
 
     note(f"Row reading: 13 on line 3 comes first, though 14 stands on line 4 and {POSITIONS + 1} "
          "entries on line 5.")
-    text(log_file("1,0", "1", "0,0", f"1,{too_long}"))
+    text(log_file("1,0", "1", "0,0", f"1,{TOO_LONG}"))
     row(1, "row 1 1 0")
     row(2, "refused 13 3")
     row(4, "refused 13 3")
 
     note("Row reading: 3 on line 2 comes before 13 on line 3.")
-    text(log_file(f"1,{too_long}", "x"))
+    text(log_file(f"1,{TOO_LONG}", "x"))
     for number in 1, 2, 3:
         row(number, "refused 3 2")
 

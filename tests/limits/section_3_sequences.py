@@ -3,39 +3,83 @@
 A lower number comes first, wherever in the sequence or trace it holds.
 """
 
-from bindings import fillers, repeated
-from calls import IN, OUT, disorderly_f, put_new, same
+from bindings import fillers, loop, loop_trace, repeated
+from calls import IN, OUT, disorder, disorderly_f, put_new, same
 from limits import BUFFER_WORDS, LAST, MAX_32, NO_ACTIVITY, POSITIONS, SETS
-from script import note, ok, refused
+from script import note, ok, refused, say
 
 
 def write():
     of_judge()
+    of_judge_on_too_many_positions()
+    of_judge_on_activities()
+    of_judge_on_walks()
     of_judge_on_positions()
     of_learn()
+    of_learn_on_too_many_positions()
+    of_learn_on_activities()
     of_learn_on_positions()
     of_learn_on_a_full_side()
+    of_follow_on_a_full_side()
+    of_full_sides_that_are_disorderly()
     of_follow()
     of_replay()
+    of_replay_on_walks()
+
+
+# Sequences for F: valid, and each with one fault.
+VALID = "0 0 2 1 1 8 3 2 0"
+UNKNOWN_SET = "0 0 8 1 1 8 3 2 0"  # 8: the start's output side has no set 8.
+NOT_DUE = "0 0 2 2 1 8 3 4 0"  # 10: (0, 2) isn't due at position 2.
+LEFT_DUE = "0 0 6 1 1 8 3 2 0"  # 11: (0, 2) stays due.
 
 
 def too_many_positions(position):
     return repeated(position, POSITIONS + 1)
 
 
+def long_loop(third="1 2 2", last_but_one="1 2 8"):
+    """The loop with a position too many, and with another binding at a place if one is given."""
+    return f"0 0 2 1 1 2 {third} {repeated('1 2 2', POSITIONS - 4)} {last_but_one} 3 2 0"
+
+
 def of_judge():
     note("Judge, 2: the record isn't orderly; the sequence is valid in F.")
     disorderly_f()
-    refused(2, 0, "judge 0 0 0 2 1 1 8 3 2 0")
+    refused(2, 0, f"judge 0 {VALID}")
 
-    note("Judge, 2 before 3, 4, 6, 7.")
-    refused(2, 0, "judge 0 0 0", f"judge 0 {NO_ACTIVITY} 0 2 1 1 8 3 2 0", "judge 0")
+    note("Judge, 2 before 3, 4, 7, 8, 10 and 11: F would refuse each of these sequences so.")
+    refused(2, 0, "judge 0 0 0", f"judge 0 {NO_ACTIVITY} 0 2 1 1 8 3 2 0", "judge 0",
+            f"judge 0 {UNKNOWN_SET}", f"judge 0 {NOT_DUE}", f"judge 0 {LEFT_DUE}")
 
+    note("Judge, 2 before 6: 9 is on no walk, and then the record isn't orderly either.")
+    ok("copy 0 1")
+    put_new(0, OUT, 1, 512)
+    refused(6, 9, f"judge 0 {VALID}")
+    disorder(0)
+    refused(2, 0, f"judge 0 {VALID}")
+
+
+def of_judge_on_too_many_positions():
     note("Judge, 3: the words aren't a multiple of three; 3 before 4 and 6.")
     refused(3, 0, "judge 1 0 0 2 1", f"judge 1 {NO_ACTIVITY} 0 2 1", f"judge 3 {NO_ACTIVITY}",
             f"judge 1 {too_many_positions(f'{NO_ACTIVITY} 0 0')}",
             f"judge 3 {too_many_positions('0 0 0')}")
 
+    note(f"Judge, 3 before 7 and 8: {POSITIONS + 1} positions, of which none is the end; or with Y "
+         "2 at position 2, which isn't on the output side of 1.")
+    refused(3, 0, f"judge 1 {too_many_positions('0 0 2')}", f"judge 1 {long_loop()}")
+
+    note(f"Judge, 3 before 10 and 11: {POSITIONS + 1} positions, all sets are in the net. At "
+         "position 3 (0, 1) isn't due any more; or (1, 1) stays due by Y 10 at the last but one.")
+    ok("fresh 0 0 3")
+    say(f"learn 0 {loop(POSITIONS)}", "ok 6")
+    put_new(0, OUT, 1, 10)
+    refused(3, 0, f"judge 0 {long_loop(third='1 1 2')}",
+            f"judge 0 {long_loop(last_but_one='1 2 10')}")
+
+
+def of_judge_on_activities():
     note(f"Judge, 4: the first position whose activity is above {LAST}; 4 before 6, 7, 8.")
     refused(4, 2, f"judge 1 0 0 2 {NO_ACTIVITY} 1 8 {NO_ACTIVITY + 1} 2 0")
     refused(4, 3, f"judge 1 0 0 2 1 1 8 {NO_ACTIVITY} 2 0")
@@ -43,22 +87,35 @@ def of_judge():
     refused(4, 2, f"judge 3 0 0 2 {NO_ACTIVITY} 1 2 1 1 0")
     refused(4, 3, f"judge 1 0 5 9 1 1 8 {NO_ACTIVITY} 2 0")
 
+    note("Judge, 4 before 8, 10 and 11, which hold before it: 8 at position 1, 10 at position 2, "
+         "and (0, 2) stays due from position 1 on.")
+    refused(4, 2, f"judge 1 0 5 9 {NO_ACTIVITY} 1 8 3 2 0")
+    refused(4, 3, f"judge 1 0 0 2 2 1 8 {NO_ACTIVITY} 1 8 3 4 0",
+            f"judge 1 0 0 6 1 1 8 {NO_ACTIVITY} 0 8 3 2 0")
+
     note(f"Judge, 4: at position {POSITIONS}, although the first activity isn't the start.")
     refused(4, POSITIONS, f"judge 1 {repeated('1 1 8', POSITIONS - 1)} {NO_ACTIVITY} 2 0")
 
+
+def of_judge_on_walks():
     note("Judge, 6: the net doesn't pass; 6 before 7 and 8. The fresh net of 0 and 1 has no arc, "
          "so 0 is on no walk.")
     refused(6, 0, "judge 3 0 0 2 1 1 0", "judge 3", "judge 3 0 0 2", "judge 3 5 5 5 5 5 5")
+
+    note("Judge, 6 before 7, 8, 10 and 11: in F with one set more only 9 is on no walk; the first "
+         "sequence is valid, F would refuse the others so.")
     ok("copy 0 1")
     put_new(0, OUT, 1, 512)
-    refused(6, 9, "judge 0 0 0 2 1 1 8 3 2 0")
+    refused(6, 9, f"judge 0 {VALID}", "judge 0 1 1 8 3 2 0", f"judge 0 {UNKNOWN_SET}",
+            f"judge 0 {NOT_DUE}", f"judge 0 {LEFT_DUE}")
 
 
 def of_judge_on_positions():
     note("Judge, 7: under two positions, no position too.")
     refused(7, 0, "judge 1", "judge 1 0 0 2", "judge 1 3 2 0")
 
-    note("Judge, 7: the start isn't first, the end isn't last, one of them occurs elsewhere.")
+    note("Judge, 7: the start isn't first, the end isn't last, one of them occurs elsewhere; 7 "
+         "before 10 and 11, as in the first (0, 1) isn't due and in the second (1, 3) stays due.")
     refused(7, 0, "judge 1 1 1 8 3 2 0", "judge 1 0 0 2 1 1 8", "judge 1 0 0 2 0 0 2 1 1 8 3 2 0",
             "judge 1 0 0 2 3 2 0 1 1 8 3 2 0", "judge 1 3 2 0 1 1 8 0 0 2")
 
@@ -95,11 +152,13 @@ def of_learn():
     refused(2, 0, "learn 0 0 0 2 1 1 4 2 2 8 3 4 0")
     same(0, 2)
 
-    note("Learn, 2 before 3, 4, 7, 9.")
+    note("Learn, 2 before 3, 4, 7, 9, 10 and 11.")
     refused(2, 0, "learn 0 0 0", f"learn 0 {NO_ACTIVITY} 0 2 1 1 8 3 2 0", "learn 0",
-            "learn 0 0 1 2 3 2 0")
+            "learn 0 0 1 2 3 2 0", f"learn 0 {NOT_DUE}", f"learn 0 {LEFT_DUE}")
     same(0, 2)
 
+
+def of_learn_on_too_many_positions():
     note("Learn, 3: the words aren't a multiple of three; 3 before 4 and 7.")
     ok("fresh 0 0 3", "fresh 2 0 3")
     refused(3, 0, "learn 0 0 0 2 1", f"learn 0 {NO_ACTIVITY} 0 2 1", "learn 0 5")
@@ -108,6 +167,14 @@ def of_learn():
             f"learn 0 {too_many_positions('0 0 0')}")
     same(0, 2)
 
+    note(f"Learn, 3 before 9, 10 and 11: of {POSITIONS + 1} positions the third has an empty X; or "
+         "takes (0, 1), which isn't due any more; or (1, 1) stays due by Y 10 at the last but one.")
+    refused(3, 0, f"learn 0 {long_loop(third='1 0 2')}", f"learn 0 {long_loop(third='1 1 2')}",
+            f"learn 0 {long_loop(last_but_one='1 2 10')}")
+    same(0, 2)
+
+
+def of_learn_on_activities():
     note(f"Learn, 4: the first position whose activity is above {LAST}; 4 before 7, 9, 10.")
     refused(4, 2, f"learn 0 0 0 2 {NO_ACTIVITY} 1 8 {NO_ACTIVITY + 1} 2 0")
     refused(4, 3, f"learn 0 0 0 2 1 1 8 {NO_ACTIVITY} 2 0")
@@ -115,6 +182,13 @@ def of_learn():
     refused(4, 3, f"learn 0 5 1 0 5 0 0 {NO_ACTIVITY} 0 0")
     same(0, 2)
     refused(4, POSITIONS, f"learn 0 {repeated('1 1 8', POSITIONS - 1)} {NO_ACTIVITY} 2 0")
+
+    note("Learn, 4 before 9, 10 and 11, which hold before it: X is filled at position 1, 10 holds "
+         "at position 2, (0, 2) stays due from position 1 on.")
+    refused(4, 2, f"learn 0 0 1 2 {NO_ACTIVITY} 1 8 3 2 0")
+    refused(4, 3, f"learn 0 0 0 2 2 1 8 {NO_ACTIVITY} 1 8 3 4 0",
+            f"learn 0 0 0 6 1 1 8 {NO_ACTIVITY} 1 8 3 2 0")
+    same(0, 2)
 
 
 def of_learn_on_positions():
@@ -124,6 +198,11 @@ def of_learn_on_positions():
             "learn 0 1 0 8 3 2 0", "learn 0 0 0 2 1 1 8", "learn 0 0 0 2 0 1 2 1 1 8 3 2 0",
             "learn 0 0 0 2 3 1 2 1 1 8 3 2 0", "learn 0 3 0 2 1 8 1 0 2 0", "learn 0 1 0 0 1 0 0",
             "learn 0 0 1 0 0 1 0")
+    same(0, 2)
+
+    note("Learn, 7 before 10 and 11: the start isn't first; in the first (2, 3) isn't due at "
+         "position 2, in the second (1, 2) stays due.")
+    refused(7, 0, "learn 0 1 0 8 3 4 0", "learn 0 1 0 12 3 2 0")
     same(0, 2)
 
     note("Learn, 9: the first position whose X or Y is empty or filled where it may not be.")
@@ -155,18 +234,32 @@ def of_learn_on_a_full_side():
     put_new(0, OUT, 0, *fillers(SETS))
     ok("copy 2 0")
     refused(12, 0, "learn 0 0 0 2 1 1 8 3 2 0")
-    refused(3, 0, "learn 0 0 0 2 1 1 8 3 2")
+    refused(3, 0, "learn 0 0 0 2 1 1 8 3 2", f"learn 0 {long_loop()}")
     refused(4, 3, f"learn 0 0 0 2 1 1 8 {NO_ACTIVITY} 2 0")
-    refused(7, 0, "learn 0 0 0 2 1 1 8 4 2 0")
+    refused(7, 0, "learn 0 0 0 2 1 1 16 4 2 0")
     refused(9, 3, "learn 0 0 0 2 1 1 8 3 2 1")
     refused(10, 3, "learn 0 0 0 2 1 1 8 3 4 0")
     refused(11, 0, "learn 0 0 0 6 1 1 8 3 2 0")
     same(0, 2)
 
-    note("Follow, 7 before 12: the same full side, and the end isn't last.")
+
+def of_follow_on_a_full_side():
+    note("Follow, 12: the same full side, where Y 2 isn't. 7 before 12: the end isn't last; 4 "
+         f"before 12: an entry is above {LAST}; 3 before 12: {POSITIONS + 1} entries.")
     refused(12, 0, "follow 0 0 1 3")
     refused(7, 0, "follow 0 0 1")
     refused(4, 2, f"follow 0 0 {NO_ACTIVITY} 3")
+    refused(4, 3, f"follow 0 0 1 {NO_ACTIVITY} 3")
+    refused(3, 0, f"follow 0 {loop_trace(POSITIONS + 1)}")
+    same(0, 2)
+
+
+def of_full_sides_that_are_disorderly():
+    note("Learn and follow, 2 before 12: the same full side in a record that isn't orderly, which "
+         "comes back as it was.")
+    disorder(0)
+    ok("copy 2 0")
+    refused(2, 0, f"learn 0 {VALID}", "follow 0 0 1 3")
     same(0, 2)
 
 
@@ -201,12 +294,16 @@ def of_replay():
     note("Replay, 2: the record isn't orderly; 2 before 3, 4 and before none.")
     disorderly_f()
     refused(2, 0, "replay 0 100 9 0 1 3", "replay 0 100 8 0 1 3",
+            f"replay 0 100 {BUFFER_WORDS} {loop_trace(POSITIONS + 1)}",
             f"replay 0 100 9 0 {NO_ACTIVITY} 3", "replay 0 100 0", "replay 0 0 9 0 1 3")
 
     note("Replay, 3: the buffer is shorter than three words a position; 3 before 4 and 6.")
     refused(3, 0, "replay 1 100 8 0 1 3", f"replay 1 100 8 0 {NO_ACTIVITY} 3",
-            "replay 3 100 5 0 1", f"replay 1 100 2 {NO_ACTIVITY}",
-            f"replay 1 100 {BUFFER_WORDS} {repeated(f'{NO_ACTIVITY}', POSITIONS + 1)}")
+            "replay 3 100 5 0 1", f"replay 1 100 2 {NO_ACTIVITY}")
+
+    note(f"Replay, 3: {POSITIONS + 1} entries; 3 before 4 and 6.")
+    refused(3, 0, f"replay 1 100 {BUFFER_WORDS} {repeated(f'{NO_ACTIVITY}', POSITIONS + 1)}",
+            f"replay 3 100 {BUFFER_WORDS} {repeated('0', POSITIONS + 1)}")
 
     note(f"Replay, 4: the first position above {LAST}; 4 before 6 and before none.")
     refused(4, 2, f"replay 1 100 9 0 {NO_ACTIVITY} {NO_ACTIVITY + 1}")
@@ -214,6 +311,8 @@ def of_replay():
     refused(4, 3, f"replay 1 100 9 1 1 {NO_ACTIVITY}")
     refused(4, 2, f"replay 3 100 9 0 {NO_ACTIVITY} 1", f"replay 1 0 9 0 {NO_ACTIVITY} 3")
 
+
+def of_replay_on_walks():
     note("Replay, 6: the net doesn't pass, and this comes before none and spent.")
     refused(6, 0, "replay 3 100 6 0 1", "replay 3 100 3 0", "replay 3 100 0", "replay 3 0 6 0 1")
     ok("fresh 0 9 5")
@@ -221,3 +320,7 @@ def of_replay():
     ok("copy 0 1")
     put_new(0, IN, 2, 2048)
     refused(6, 11, "replay 0 100 9 0 1 3", "replay 0 100 9 1 1 1")
+
+    note("Replay, 2 before 6: 11 is on no walk, but the record isn't orderly either.")
+    disorder(0)
+    refused(2, 0, "replay 0 100 9 0 1 3")
