@@ -4,7 +4,8 @@ from bindings import words
 from calls import read_f, row, same
 from files import F_FILE, log_file, net_file
 from limits import (
-    ACTIVITIES, ALL, BUFFER_BYTES, DIGITS, LAST, LOG_BYTES, MAX_32, NET_BYTES, NO_ACTIVITY,
+    ACTIVITIES, ALL, BUFFER_BYTES, BUFFER_WORDS, DIGITS, LAST, LOG_BYTES, MAX_32, NET_BYTES,
+    NO_ACTIVITY, POSITIONS,
 )
 from record import out_place
 from script import note, ok, refused, say, shown, text
@@ -65,10 +66,12 @@ def bytes_of_a_log_file():
     row(3, "refused 14 3")
     row(0, "refused 3 0")
 
-    note("3: one byte more, and the file exceeds its bytes; row 1 isn't given any more.")
-    text(log_of_size(LOG_BYTES + 1))
-    for number in 1, 2, 0:
+    note("3: one byte more, and the file exceeds its bytes; row 1 isn't given any more, and the "
+         "second comma on line 3, which would be 13, comes after. A longer buffer stays as it was.")
+    text(log_of_size(LOG_BYTES) + ",")
+    for number in 1, 2, 3, 0:
         row(number, "refused 3 0")
+    refused(3, 0, f"readrow 1 {POSITIONS - 1}", f"readrow 1 {BUFFER_WORDS}")
 
     note(f"3: as a net file such a text exceeds {NET_BYTES:,} bytes, and this comes before its "
          "header, which differs.")

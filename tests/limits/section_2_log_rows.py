@@ -13,6 +13,7 @@ from wording import nth
 def write():
     buffer_of_a_row()
     row_asked_for()
+    buffers_that_stay()
     rows_of_a_log()
     row_beyond_the_last()
     sessions()
@@ -30,10 +31,37 @@ def buffer_of_a_row():
         say(f"readrow 1 {buffer}", "row 12 3 0 1 3")
     refused(3, 0, "readrow 1 0", "readrow 1 3")
 
+    powers = [2**exponent for exponent in range(8)]
+    note(f"3: of buffers of {', '.join(map(str, powers))} words those below {POSITIONS} are too "
+         "short, although the trace has only three entries.")
+    for buffer in powers:
+        say(f"readrow 1 {buffer}", "refused 3 0" if buffer < POSITIONS else "row 12 3 0 1 3")
+
     note("3: also where the answer would be end.")
-    refused(3, 0, f"readrow 3 {POSITIONS - 1}")
-    say(f"readrow 3 {POSITIONS}", "end")
-    say(f"readrow 3 {POSITIONS + 1}", "end")
+    refused(3, 0, f"readrow 3 {POSITIONS - 1}", "readrow 3 0")
+    for buffer in POSITIONS, POSITIONS + 1, BUFFER_WORDS:
+        say(f"readrow 3 {buffer}", "end")
+
+
+def buffers_that_stay():
+    longer = POSITIONS + 1, BUFFER_WORDS
+
+    note("No word of a longer buffer changes where the row asked for is 0, or is refused by 13, by "
+         "14 at its last entry, or by 3 at its last entry; the row before it is good.")
+    for fault, bad_row in (
+        (13, "7,0 1 3,"),
+        (14, f"7,0 1 {NO_ACTIVITY}"),
+        (3, f"7,{repeated('1', POSITIONS + 1)}"),
+    ):
+        text(log_file("12,0 1 3", bad_row))
+        for buffer in longer:
+            refused(3, 0, f"readrow 0 {buffer}")
+            refused(fault, 3, f"readrow 2 {buffer}", f"readrow 3 {buffer}")
+
+    note("The same for a file without its header.")
+    text("12,0 1 3")
+    for buffer in longer:
+        refused(13, 1, f"readrow 1 {buffer}")
 
 
 def row_asked_for():
@@ -84,6 +112,15 @@ def row_beyond_the_last():
     row(LOG_ROWS, PLAIN_ANSWER)
     for number in LOG_ROWS + 1, LOG_ROWS + 2, MAX_64:
         row(number, f"refused 3 {line}")
+
+    note("3 with line 0 before it: the row asked for is 0, or the buffer is short.")
+    row(0, "refused 3 0")
+    refused(3, 0, f"readrow {LOG_ROWS + 1} {POSITIONS - 1}")
+
+    note(f"3 twice on line {line:,}: the {nth(LOG_ROWS + 1)} row has {POSITIONS + 1} entries.")
+    text(long_log(LOG_ROWS + 1, f"1,{repeated('1', POSITIONS + 1)}"))
+    row(LOG_ROWS, PLAIN_ANSWER)
+    row(LOG_ROWS + 1, f"refused 3 {line}")
 
     note(f"14 comes before 3 on line {line:,}: its entry is {NO_ACTIVITY}.")
     text(long_log(LOG_ROWS + 1, f"1,{NO_ACTIVITY}"))

@@ -1,8 +1,8 @@
 """The part of section 2 on sequences and traces: their length, and what a replay is given."""
 
 from bindings import loop, loop_trace
-from calls import read_f, same
-from limits import BUFFER_WORDS, MAX_64, POSITIONS
+from calls import OUT, disorder, put_new, read_f, same
+from limits import BUFFER_WORDS, MAX_64, NO_ACTIVITY, POSITIONS
 from script import note, ok, refused, say
 
 
@@ -12,6 +12,7 @@ def write():
     positions_replayed()
     words_of_a_sequence()
     buffer_of_replay()
+    buffers_that_stay()
     budgets()
 
 
@@ -111,22 +112,48 @@ def buffer_of_replay():
         say(f"replay 0 100 {buffer} 0 1 3", "found 3 0 0 2 1 1 8 3 2 0")
     refused(3, 0, "replay 0 100 0 0 1 3")
 
-    note("3: the buffer is measured by the trace, whatever the answer would be.")
-    refused(3, 0, "replay 0 100 5 0 3")
+    note("3: the buffer is measured by the trace, whatever the answer would be: none with 12 "
+         "trials, none with 0 trials, none for the empty trace, spent.")
+    refused(3, 0, "replay 0 100 5 0 3", "replay 0 100 0 0 3")
     say("replay 0 100 6 0 3", "none 12")
     say("replay 0 100 7 0 3", "none 12")
-    refused(3, 0, "replay 0 100 2 0")
+    refused(3, 0, "replay 0 100 2 0", "replay 0 100 0 0")
     say("replay 0 100 3 0", "none 0")
     say("replay 0 100 0", "none 0")
     say("replay 0 100 1", "none 0")
-    refused(3, 0, "replay 0 0 8 0 1 3")
+    refused(3, 0, "replay 0 0 8 0 1 3", "replay 0 0 0 0 1 3")
+    say("replay 0 0 9 0 1 3", "spent 0")
 
     needed = 3 * POSITIONS
     note(f"3: for {POSITIONS} entries {needed - 1} words are one short.")
     ok("copy 2 0", "copy 0 1")
-    refused(3, 0, f"replay 0 1000 {needed - 1} {loop_trace(POSITIONS)}")
-    say(f"replay 0 1000 {needed + 1} {loop_trace(POSITIONS)}",
-        f"found {loop_trials(POSITIONS)} {loop(POSITIONS)}")
+    refused(3, 0, f"replay 0 1000 {needed - 1} {loop_trace(POSITIONS)}",
+            f"replay 0 1000 0 {loop_trace(POSITIONS)}")
+    for buffer in needed, needed + 1:
+        say(f"replay 0 1000 {buffer} {loop_trace(POSITIONS)}",
+            f"found {loop_trials(POSITIONS)} {loop(POSITIONS)}")
+
+
+def buffers_that_stay():
+    note("Where the answer isn't found, no word of a buffer that is longer than needed changes: "
+         "none after 8 and 12 trials, none with 0 trials, spent at once and after the end was "
+         "reached, refused by 4. The empty trace needs no word.")
+    ok("copy 0 2")
+    for buffer in 13, BUFFER_WORDS:
+        say(f"replay 0 100 {buffer} 0 1 1 3", "none 8")
+        say(f"replay 0 100 {buffer} 0 3", "none 12")
+        say(f"replay 0 100 {buffer} 0 0 3", "none 0")
+        say(f"replay 0 100 {buffer} 0", "none 0")
+        say(f"replay 0 100 {buffer}", "none 0")
+        say(f"replay 0 0 {buffer} 0 1 3", "spent 0")
+        say(f"replay 0 10 {buffer} 0 1 2 3", "spent 10")
+        refused(4, 2, f"replay 0 100 {buffer} 0 {NO_ACTIVITY} 3")
+
+    note("The same for a net that doesn't pass, by 6, and for a record that isn't orderly, by 2.")
+    put_new(0, OUT, 1, 512)
+    refused(6, 9, "replay 0 100 13 0 1 2 3", f"replay 0 100 {BUFFER_WORDS} 0 1 2 3")
+    disorder(0)
+    refused(2, 0, "replay 0 100 13 0 1 2 3", f"replay 0 100 {BUFFER_WORDS} 0 1 2 3")
 
 
 def budgets():
