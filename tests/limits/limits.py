@@ -10,6 +10,8 @@ SESSIONS = 1_000_000  # The most sessions of one row.
 
 # The limits of a script, from docs/SCRIPTS.md.
 REGISTERS = 4
+TEXT_BYTES = 524_289  # The most that the text register holds.
+LINE_NUMBERS = 1_024  # The most numbers of a line.
 BUFFER_WORDS = 4_096
 BUFFER_BYTES = 131_072
 

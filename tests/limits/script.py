@@ -51,6 +51,11 @@ def text(content):
     say(f"text {len(content)}\n{content}", "ok")
 
 
+def text_without_line_end(content, command, answer):
+    """A text whose bytes a command follows at once: it is no text, and the command is run."""
+    say(f"text {len(content)}\n{content}{command}", f"?\n{answer}")
+
+
 def shown(content):
     """The text register holds these bytes."""
     say("show", f"text {len(content)}\n{content}")
