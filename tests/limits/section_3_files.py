@@ -45,16 +45,20 @@ def of_net_reading_by_start_and_end():
     refused_net(1, 3, net_file(3, 3))
     refused_net(1, 3, net_file(0, 0))
 
-    note("Net reading, 1 on line 3 comes before 13, 14 and 5 on line 4. As 1 is of line 3 alone, it "
-         "never stands on one line with 5 or 12.")
+    note("Net reading, 1 on line 3 comes before 13, 14 and 5 on line 4. As 1 is of line 3 alone, "
+         "it never stands on one line with 5 or 12.")
     refused_net(1, 3, net_file(3, 3, "x"))
     refused_net(1, 3, net_file(3, 3, f"in,{NO_ACTIVITY},1"))
     refused_net(1, 3, net_file(3, 3, "in,3,1"))
 
-    note("Net reading, 13 and 14 before 1 on line 3; 14 on line 2 before 1 on line 3.")
+    note("Net reading, 13 before 1 on line 3.")
     refused_net(13, 3, lines(NET_HEADER, "start,3,", "end,3,3"))
     refused_net(13, 3, lines(NET_HEADER, "start,3,", "end,3"))
+
+    note("Net reading, 14 before 1: what is no number equals none, so 1 holds beside 14 only for a "
+         "reader that takes 03 for 3, or cuts the number; and 14 on line 2 comes before line 3.")
     refused_net(14, 3, net_file(3, "03"))
+    refused_net(14, 3, net_file(3, 2**32 + 3))
     refused_net(14, 2, net_file(NO_ACTIVITY, NO_ACTIVITY))
 
 
@@ -94,8 +98,8 @@ def of_net_reading_by_a_full_side():
     refused_net(14, line, net_file(0, 3, *full, f"in,1,{SETS} {SETS}"))
     refused_net(14, line, net_file(0, 3, *full, f"in,1,{NO_ACTIVITY}"))
 
-    note("Net reading, 5 before 12 can't be shown on one line: a side that must hold only the empty "
-         "set is never full. Across lines the first line with a fault decides, whatever the "
+    note("Net reading, 5 before 12 can't be shown on one line: a side that must hold only the "
+         "empty set is never full. Across lines the first line with a fault decides, whatever the "
          "numbers are.")
     refused_net(12, line, net_file(0, 3, *full, one_more, "x", "in,0,1"))
     refused_net(5, line, net_file(0, 3, *full, "in,0,1", one_more))
@@ -135,8 +139,9 @@ def of_row_reading():
 
 
 def of_row_reading_with_a_short_buffer():
-    note("Row reading, 3 with line 0 before 13, 14 and 3 on line 2: the buffer is short, or the row "
-         "asked for is 0. These two and too many bytes are one answer, so their order isn't seen.")
+    note("Row reading, 3 with line 0 before 13, 14 and 3 on line 2: the buffer is short, or the "
+         "row asked for is 0. These two and too many bytes are one answer, so their order isn't "
+         "seen.")
     for number, bad_row in (13, "1"), (14, f"1,{NO_ACTIVITY}"), (3, f"1,{TOO_LONG}"):
         refused_row(number, 2, log_file(bad_row))
         refused(3, 0, f"readrow 1 {SHORT}", "readrow 1 0", f"readrow 2 {SHORT}")

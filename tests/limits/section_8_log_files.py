@@ -67,8 +67,8 @@ def headers():
 
 
 def line_ends():
-    note("Log, 13: lines that all end in LF alone, in CR alone or in LF CR are one long line, which "
-         "differs from the header.")
+    note("Log, 13: lines that all end in LF alone, in CR alone or in LF CR are one long line, "
+         "which differs from the header.")
     for line_end in "\n", "\r", "\n\r":
         refused_row(13, 1, log_file("12,0 3").replace(CRLF, line_end))
 

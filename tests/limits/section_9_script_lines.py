@@ -216,8 +216,9 @@ def number_signs():
 
 
 def numbers_of_a_text():
-    note("Where its number is none, a text is no command and has no bytes, so that the next line is "
-         "a line of the script: a leading zero, a sign, 2^64, two spaces before it, one behind it.")
+    note("Where its number is none, a text is no command and has no bytes, so that the next line "
+         "is a line of the script: a leading zero, a sign, 2^64, two spaces before it, one behind "
+         "it.")
     for number in "00", "01", "+1", f"{2**64}", " 1", "1 ":
         no_command(f"text {number}")
         say("check 0", "ok 4")
