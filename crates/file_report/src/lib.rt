@@ -27,7 +27,7 @@ pub fn print_report(net_path: &[u8], log_path: &[u8]) -> bool {
     if let NetAnswer::Refused { number, place } = answer {
         return print_refusal(number, place);
     }
-    print_log(read.net, log_path)
+    print_log(read.net, log_path, &mut text)
 }
 
 // Prints the refusal of a net file.
@@ -37,13 +37,12 @@ fn print_refusal(number: u32, line: u32) -> bool {
     print(&out[..n])
 }
 
-// Prints the report of a log file in a net that has been checked.
-fn print_log(net: Net, path: &[u8]) -> bool
+// Prints the report of a log file in a net that has been checked. The file is read into `text`.
+fn print_log(net: Net, path: &[u8], text: &mut [u8]) -> bool
     requires { ⌜ orderly net ≡ true ⌝ }
 {
-    let mut text = [0u8; FILE_ROOM];
     let mut out = [0u8; REPORT_ROOM];
-    let n = read_file(path, &mut text);
+    let n = read_file(path, text);
     let k = report_log(net, &text[..n], &mut out);
     print(&out[..k])
 }

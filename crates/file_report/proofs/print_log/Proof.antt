@@ -7,14 +7,11 @@ use Rattle.report.proofs.ReportLaws.{log-wrote-short}
 use Rattle.file_report.proofs.print_log.Statement.{statement}
 use Rattle.file_report.proofs.print_log.Tie as tie
 
-slice-aggregate-read-file : tie.Need-slice-aggregate-read-file
-slice-aggregate-read-file c = search needs
-
 read-file-requires : tie.Need-read-file-requires
 read-file-requires c κs = search needs
 
-array-share-prefix-text : tie.Need-array-share-prefix-text
-array-share-prefix-text c = search needs
+slice-reshare-prefix-report-log : tie.Need-slice-reshare-prefix-report-log
+slice-reshare-prefix-report-log c = search needs
 
 slice-aggregate-report-log : tie.Need-slice-aggregate-report-log
 slice-aggregate-report-log c = search needs
@@ -34,6 +31,9 @@ slice-aggregate-print c = sym (length-take-le _ _ (omega (arith, log-wrote-short
 print-requires : tie.Need-print-requires
 print-requires c κs = search needs
 
+same-length : tie.Need-same-length
+same-length c = search needs
+
 returns : tie.Need-returns
 returns c = search needs
 
@@ -41,13 +41,13 @@ pub print-log-spec : {M : Type 1} → statement M
 print-log-spec =
     tie.close
     (tie.spec
-    slice-aggregate-read-file
     read-file-requires
-    array-share-prefix-text
+    slice-reshare-prefix-report-log
     slice-aggregate-report-log
     slice-aggregate-report-log-2
     report-log-requires
     array-share-prefix-out
     slice-aggregate-print
     print-requires
+    same-length
     returns)

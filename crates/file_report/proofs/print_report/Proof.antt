@@ -33,8 +33,11 @@ returns c = search needs
 enum-told : tie.Need-enum-told
 enum-told c = search needs
 
+slice-aggregate-print-log : tie.Need-slice-aggregate-print-log
+slice-aggregate-print-log c = search needs
+
 print-log-requires : tie.Need-print-log-requires
-print-log-requires c κs = let r = c .before .before .read-checked in ap orderly (r .ensures .gives) ∙ checked-orderly _
+print-log-requires c κs = let r = c .before .before .before .read-checked in ap orderly (r .ensures .gives) ∙ checked-orderly _
 
 returns-2 : tie.Need-returns-2
 returns-2 c = search needs
@@ -52,5 +55,6 @@ print-report-spec =
     print-refusal-requires
     returns
     enum-told
+    slice-aggregate-print-log
     print-log-requires
     returns-2)
