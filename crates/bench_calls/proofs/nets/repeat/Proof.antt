@@ -1,0 +1,46 @@
+-- `repeat` meets its contract and ends: it counts up to the calls asked for. Assumes nothing.
+use Prim.Native.Nat.{_-_, _≤_}
+use borrow.Author.Needs.{needs}
+use Rattle.bench_calls.proofs.nets.repeat.Statement.{statement}
+use Rattle.bench_calls.proofs.nets.repeat.Tie as tie
+
+abbrev Inv-loop : tie.InvT-loop
+Inv-loop call count given net₀ sum₀ i₀ net sum i = i ≤ count
+
+abbrev μ-loop : tie.MeasureT-loop
+μ-loop call count given net₀ sum₀ i₀ net sum i = count - i
+
+loop-holds : tie.Need-loop-holds Inv-loop μ-loop
+loop-holds c = search needs
+
+make-requires : tie.Need-make-requires Inv-loop μ-loop
+make-requires c κs = search needs
+
+wrapping-add-u64-requires : tie.Need-wrapping-add-u64-requires Inv-loop μ-loop
+wrapping-add-u64-requires c κs = search needs
+
+add-i : tie.Need-add-i Inv-loop μ-loop
+add-i c = search needs
+
+loop-less : tie.Need-loop-less Inv-loop μ-loop
+loop-less c = search needs
+
+loop-again : tie.Need-loop-again Inv-loop μ-loop
+loop-again c = search needs
+
+returns : tie.Need-returns Inv-loop μ-loop
+returns c = search needs
+
+pub repeat-spec : {M : Type 1} → statement M
+repeat-spec =
+    tie.close
+    (tie.spec
+    Inv-loop
+    μ-loop
+    loop-holds
+    make-requires
+    wrapping-add-u64-requires
+    add-i
+    loop-less
+    loop-again
+    returns)
