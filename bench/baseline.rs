@@ -5,8 +5,8 @@
 //!
 //! The first argument chooses how trials are counted. The answers and the counts are the same.
 //!
-//! - `plain` looks at each pair of an input set and an output set, one by one.
-//! - `bulk` counts all pairs of an impossible input set at once.
+//! - `bulk` counts all pairs of an impossible input set at once, as `replay` does: like for like.
+//! - `plain` looks at each pair of an input set and an output set, one by one: for orientation.
 
 use std::env;
 use std::fs;

@@ -1,11 +1,11 @@
 #!/usr/bin/env python3
-"""Writes net.csv and log.csv for a replay whose rows are all found, after searches of modest length.
+"""Writes net.csv and log.csv for a replay whose rows are all found, after searches of some length.
 
 The net has stages. A hub opens a stage with some of the stage's tasks, which come in any order, and
 the hub behind it closes the stage; the start is the first hub and the end the last. A hub's sides
-have every selection of a stage's tasks. The right one is not the first that is possible, and a wrong
-one is often seen to be wrong only at the end of the trace, so that the search has to go back. Seed
-and rows decide every byte.
+have every selection of a stage's tasks. The right one is not the first that is possible, and a
+wrong one is often seen to be wrong only at the end of the trace, so that the search has to go back.
+Seed and rows decide every byte.
 """
 
 import itertools

@@ -2,9 +2,9 @@
 """Writes net.csv and log.csv for a replay on a full net: 32 activities, 16 sets on each side.
 
 Only the start's inputs and the end's outputs, which hold just the empty set, have fewer. A random
-trace would be lost in so wide a net after a few positions. So each trace is a walk: the next activity
-is drawn from those that have a possible binding after the bindings drawn before. Obligations may be
-left at the end. Seed and rows decide every byte.
+trace would be lost in so wide a net after a few positions. So each trace is a walk: the next
+activity is drawn from those that have a possible binding after the bindings drawn before.
+Obligations may be left at the end. Seed and rows decide every byte.
 """
 
 import collections
