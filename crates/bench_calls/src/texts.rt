@@ -17,6 +17,7 @@ pub fn repeat_on_file(call: u32, count: u32, path: &[u8]) -> u64 {
     repeat_on_text(call, count, &text[..n])
 }
 
+// Makes a call so often on a text, or on the net that it has.
 fn repeat_on_text(call: u32, count: u32, text: &[u8]) -> u64 {
     if call < READ_NET {
         let read = netfile::read_net(text);
@@ -25,6 +26,8 @@ fn repeat_on_text(call: u32, count: u32, text: &[u8]) -> u64 {
     repeat_reading(call, count, text)
 }
 
+// Rows have another number each time. Nets are read from the same text; what that stores keeps the compiler from making one
+// call of many.
 fn repeat_reading(call: u32, count: u32, text: &[u8]) -> u64 {
     let mut sum: u64 = 0;
     let mut i: u32 = 0;
