@@ -3,9 +3,10 @@
 use crate::READ_NET;
 use crate::REFUSED;
 use crate::nets;
+use files::read_file;
 use logfile::RowAnswer;
 use netfile::NetAnswer;
-use files::read_file;
+use obligations::POSITIONS;
 
 // A log has no row of this number or a higher one, so that reading such a row passes over the whole log.
 const NO_ROW: u64 = 1001;
@@ -58,7 +59,7 @@ fn read_net(text: &[u8]) -> u64 {
 }
 
 fn read_row(text: &[u8], row: u64) -> u64 {
-    let mut trace = [0u32; 64];
+    let mut trace = [0u32; POSITIONS];
     let answer = logfile::read_row(text, row, &mut trace);
     match answer {
         RowAnswer::End => 1,
