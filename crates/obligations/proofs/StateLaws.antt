@@ -11,8 +11,8 @@ use native.Mathlib.Omega.{arith}
 use borrow.Author.Tests.{eq-eqb, eqb-true}
 use lib.Bits.{bitOr, or-add-and, and-le-l, and-le-r}
 use lib.Dec.{eqb, lit<}
-use lib.ListN.{length, getD, drop, replicate, getD-replicate, List·getD-eq-default}
-use lib.Seq.{ext-getD}
+use lib.ListN.{length, getD, take, drop, replicate, getD-replicate, List·getD-eq-default}
+use lib.Seq.{ext-getD, getD-take, getD-drop, drop-drop}
 use Rattle.obligations.specs.Sets.{single}
 use Rattle.obligations.specs.State.{nothing, inputs, outputs, allDue, lowered, raised, possible, taken, added, after, stepped, covers, unadded, untaken, before, allZero, State}
 use Rattle.obligations.proofs.BoolLaws.{and-left, and-right, and-both, same-test}
@@ -199,10 +199,33 @@ zero-drop (x ∷ xs) zero = refl
 zero-drop (x ∷ xs) (suc i) = zero-drop xs i
 
 -- one count more seen
-pub zero-seen : (d : List ℕ) (i s : ℕ) → eqb s 0 && allZero (drop i d) ≡ eqb (bitOr s (getD d i 0)) 0 && allZero (drop (i + 1) d)
+zero-seen : (d : List ℕ) (i s : ℕ) → eqb s 0 && allZero (drop i d) ≡ eqb (bitOr s (getD d i 0)) 0 && allZero (drop (i + 1) d)
 zero-seen d i s =
     ap (λ (t : Bool). eqb s 0 && t) (zero-drop d i) ∙ sym (and-assoc (eqb s 0) (eqb (getD d i 0) 0) (allZero (drop (suc i) d)))
     ∙ ap₂ (λ (t : Bool) (k : ℕ). t && allZero (drop k d)) (sym (zero-or s (getD d i 0))) (sym (add-one i))
+
+-- one count more seen of those from place `from` to before place `to`
+pub zero-seen-between : (d : List ℕ) (from to i s : ℕ) → from ≤ i → i < to
+    → eqb s 0 && allZero (drop (i - from) (take (to - from) (drop from d))) ≡ eqb (bitOr s (getD d i 0)) 0 && allZero (drop (i + 1 - from) (take (to - from) (drop from d)))
+zero-seen-between d from to i s h l =
+    let part : List ℕ = take (to - from) (drop from d) in
+    let inside : i - from < to - from = omega arith in
+    let place : from + (i - from) ≡ i = omega arith in
+    let same : getD part (i - from) 0 ≡ getD d i 0 = getD-take (to - from) (drop from d) (i - from) 0 inside ∙ getD-drop from d (i - from) 0 ∙ ap (λ (k : ℕ). getD d k 0) place in
+    let next : i - from + 1 ≡ i + 1 - from = omega arith in
+    zero-seen part (i - from) s ∙ ap₂ (λ (n k : ℕ). eqb (bitOr s n) 0 && allZero (drop k part)) same next
+
+-- those from a place on are zero exactly if those to before a later place are and those from there on
+zero-split : (d : List ℕ) (n : ℕ) → allZero d ≡ allZero (take n d) && allZero (drop n d)
+unfolding allZero
+zero-split d zero = refl
+zero-split [] (suc n) = refl
+zero-split (x ∷ xs) (suc n) = ap (λ (t : Bool). eqb x 0 && t) (zero-split xs n) ∙ sym (and-assoc (eqb x 0) (allZero (take n xs)) (allZero (drop n xs)))
+
+pub zero-between : (d : List ℕ) (from to : ℕ) → from ≤ to → allZero (drop from d) ≡ allZero (take (to - from) (drop from d)) && allZero (drop to d)
+zero-between d from to h =
+    let place : from + (to - from) ≡ to = omega arith in
+    zero-split (drop from d) (to - from) ∙ ap (λ (l : List ℕ). allZero (take (to - from) (drop from d)) && allZero l) (drop-drop (to - from) from d ∙ ap (λ (k : ℕ). drop k d) place)
 
 -- every count is zero, at each place, and back
 pub zero-at : (d : List ℕ) → allZero d ≡ true → (i : ℕ) → getD d i 0 ≡ 0
