@@ -15,10 +15,11 @@ ghost use Rattle.net.specs.Inner.{Sides};
 ghost use Rattle.search.specs.Search.{later, atEnd};
 ghost use Rattle.search.specs.Trace.{TraceWithRoom};
 ghost use Rattle.search.specs.Replay.{endSays};
-ghost use Rattle.search.specs.Backtrack.{searchLent, searchTaken, outcomeMeans, Searched};
+ghost use Rattle.search.specs.Backtrack.{searchLent, searchTaken, NextPossible, outcomeMeans, Searched};
 
 // The search from position `at` on, in the state `due`, with `trials` trials made before: the input sets in their order.
-// An input set that isn't possible fails with every output set, so these pairs are counted at once.
+// An input set that isn't possible fails with every output set, so the pairs of all those up to the next possible one are
+// counted at once.
 pub fn search_inputs<'a>(
     inputs: &'a [u32; 512],
     input_len: &'a [u32; 32],
@@ -44,37 +45,38 @@ pub fn search_inputs<'a>(
     let width = side_len(output_len, a) as u64;
     let mut count = trials;
     let mut i: u32 = 0;
-    while i < n {
-        let x = set_at(inputs, a, i);
-        if state::is_possible(due, a, x) {
-            state::take(due, a, x);
-            let tried = search_outputs(
-                inputs,
-                input_len,
-                outputs,
-                output_len,
-                trace,
-                at,
-                x,
-                budget,
-                count,
-                due,
-                out,
-            );
-            state::undo_take(due, a, x);
-            let Outcome::Failed { trials: k } = tried else {
-                return tried;
-            };
-            count = k;
-        } else {
-            if budget - count < width {
-                return Outcome::Spent { trials: budget };
-            }
-            count += width;
+    loop {
+        let next = next_possible(due, inputs, a, i, n);
+        let passed = (next - i) as u64 * width;
+        if budget - count < passed {
+            return Outcome::Spent { trials: budget };
         }
-        i += 1;
+        count += passed;
+        if next == n {
+            return Outcome::Failed { trials: count };
+        }
+        let x = set_at(inputs, a, next);
+        state::take(due, a, x);
+        let tried = search_outputs(
+            inputs,
+            input_len,
+            outputs,
+            output_len,
+            trace,
+            at,
+            x,
+            budget,
+            count,
+            due,
+            out,
+        );
+        state::undo_take(due, a, x);
+        let Outcome::Failed { trials: k } = tried else {
+            return tried;
+        };
+        count = k;
+        i = next + 1;
     }
-    Outcome::Failed { trials: count }
 }
 
 // The search from position `at` on with the input set x, for which `due` has been lowered already: the output sets in
@@ -135,6 +137,23 @@ fn search_outputs<'a>(
         j += 1;
     }
     Outcome::Failed { trials: count }
+}
+
+// How many of activity a's n input sets stand before the next possible one, where `from` have been looked at already; n
+// if none is. Most sets that a search looks at aren't possible, so this loop does nothing but test.
+fn next_possible(due: &[u8; 1024], inputs: &[u32; 512], a: u32, from: u32, n: u32) -> u32
+    requires { ⌜ (a < activities) × (from ≤ n) × (n ≤ sets) × (length (now inputs) ≡ places) ⌝ }
+    ensures { λ r. ⌜ NextPossible (now (due .entry)) (now (inputs .entry)) a from n r ⌝ }
+{
+    let mut k = from;
+    while k < n {
+        let x = set_at(inputs, a, k);
+        if state::is_possible(due, a, x) {
+            return k;
+        }
+        k += 1;
+    }
+    n
 }
 
 // Past the last position: found if nothing is due any more.
