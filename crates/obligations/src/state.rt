@@ -4,6 +4,7 @@
 // These functions are called by the layers above and by nobody else. Their `requires` are those that a caller has at
 // hand: the activity is one, and no count is above 254, since a count is at most the number of positions so far.
 
+use crate::ACTIVITIES;
 use crate::PAIRS;
 ghost use mathlib.Core.Path.{_≡_};
 ghost use mathlib.Core.Bool.{true};
@@ -18,52 +19,52 @@ const PARTS: usize = 4;
 const PART: usize = PAIRS / PARTS;
 
 // Whether the binding of a with the input set x is possible: every (p, a) with p in x has a count of at least 1.
-pub fn is_possible(due: &[u8; 1024], a: u32, x: u32) -> bool
+pub fn is_possible(due: &[u8; PAIRS], a: u32, x: u32) -> bool
     requires { ⌜ a < activities ⌝ }
     ensures { λ r. ⌜ r ≡ possible (now (due .entry)) a x ⌝ }
 {
-    all_due(due, a * 32, 1, x)
+    all_due(due, a * ACTIVITIES, 1, x)
 }
 
 // Takes one from each (p, a) with p in x.
-pub fn take(due: &mut [u8; 1024], a: u32, x: u32)
+pub fn take(due: &mut [u8; PAIRS], a: u32, x: u32)
     requires { ⌜ a < activities ⌝ }
     requires { ⌜ possible (now due) a x ≡ true ⌝ }
     ensures { λ _. ⌜ now (due .exit) ≡ taken (now (due .entry)) a x ⌝ }
 {
-    lower(due, a * 32, 1, x);
+    lower(due, a * ACTIVITIES, 1, x);
 }
 
 // Adds one to each (a, q) with q in y.
-pub fn add(due: &mut [u8; 1024], a: u32, y: u32)
+pub fn add(due: &mut [u8; PAIRS], a: u32, y: u32)
     requires { ⌜ a < activities ⌝ }
     requires { ⌜ State 254 (now due) ⌝ }
     ensures { λ _. ⌜ now (due .exit) ≡ added (now (due .entry)) a y ⌝ }
 {
-    raise(due, a, 32, y);
+    raise(due, a, ACTIVITIES, y);
 }
 
 // Undoes `take`.
-pub fn undo_take(due: &mut [u8; 1024], a: u32, x: u32)
+pub fn undo_take(due: &mut [u8; PAIRS], a: u32, x: u32)
     requires { ⌜ a < activities ⌝ }
     requires { ⌜ State 254 (now due) ⌝ }
     ensures { λ _. ⌜ now (due .exit) ≡ untaken (now (due .entry)) a x ⌝ }
 {
-    raise(due, a * 32, 1, x);
+    raise(due, a * ACTIVITIES, 1, x);
 }
 
 // Undoes `add`.
-pub fn undo_add(due: &mut [u8; 1024], a: u32, y: u32)
+pub fn undo_add(due: &mut [u8; PAIRS], a: u32, y: u32)
     requires { ⌜ a < activities ⌝ }
     requires { ⌜ covers (now due) a y ≡ true ⌝ }
     ensures { λ _. ⌜ now (due .exit) ≡ unadded (now (due .entry)) a y ⌝ }
 {
-    lower(due, a, 32, y);
+    lower(due, a, ACTIVITIES, y);
 }
 
 // Takes the step of the binding (a, x, y) and answers true, if it is possible; else changes nothing and answers false.
 // What y adds can't serve x of the same step: x is tested and taken first.
-pub fn step(due: &mut [u8; 1024], a: u32, x: u32, y: u32) -> bool
+pub fn step(due: &mut [u8; PAIRS], a: u32, x: u32, y: u32) -> bool
     requires { ⌜ a < activities ⌝ }
     requires { ⌜ State 254 (now due) ⌝ }
     ensures { λ r. ⌜ (r ≡ possible (now (due .entry)) a x) × (now (due .exit) ≡ stepped r (now (due .entry)) a x y) ⌝ }
@@ -78,7 +79,7 @@ pub fn step(due: &mut [u8; 1024], a: u32, x: u32, y: u32) -> bool
 }
 
 // Brings back the state before a possible step of the binding (a, x, y).
-pub fn undo(due: &mut [u8; 1024], a: u32, x: u32, y: u32)
+pub fn undo(due: &mut [u8; PAIRS], a: u32, x: u32, y: u32)
     requires { ⌜ a < activities ⌝ }
     requires { ⌜ State 254 (now due) ⌝ }
     requires { ⌜ covers (now due) a y ≡ true ⌝ }
@@ -89,7 +90,7 @@ pub fn undo(due: &mut [u8; 1024], a: u32, x: u32, y: u32)
 }
 
 // Whether every count is zero. Most states that are tested have something due, and mostly in the first part already.
-pub fn is_zero(due: &[u8; 1024]) -> bool
+pub fn is_zero(due: &[u8; PAIRS]) -> bool
     requires { ⌜ length (now due) ≡ pairs ⌝ }
     ensures { λ r. ⌜ r ≡ allZero (now (due .entry)) ⌝ }
 {
@@ -105,7 +106,7 @@ pub fn is_zero(due: &[u8; 1024]) -> bool
 
 // Whether every count from place `from` to before place `to` is zero. No way out of the loop, so that it is compiled to
 // vector operations.
-fn is_zero_between(due: &[u8; 1024], from: usize, to: usize) -> bool
+fn is_zero_between(due: &[u8; PAIRS], from: usize, to: usize) -> bool
     requires { ⌜ (from ≤ to) × (to ≤ pairs) × (length (now due) ≡ pairs) ⌝ }
     ensures { λ r. ⌜ r ≡ allZero (take (to - from) (drop from (now (due .entry)))) ⌝ }
 {
@@ -119,7 +120,7 @@ fn is_zero_between(due: &[u8; 1024], from: usize, to: usize) -> bool
 }
 
 // Whether each place base + k * stride, for k in the set, has a count of at least 1.
-fn all_due(due: &[u8; 1024], base: u32, stride: u32, set: u32) -> bool
+fn all_due(due: &[u8; PAIRS], base: u32, stride: u32, set: u32) -> bool
     requires { ⌜ base + 31 * stride < pairs ⌝ }
     ensures { λ r. ⌜ r ≡ allDue (now (due .entry)) (placesOf base stride set) ⌝ }
 {
@@ -136,7 +137,7 @@ fn all_due(due: &[u8; 1024], base: u32, stride: u32, set: u32) -> bool
 }
 
 // Takes one from each place base + k * stride, for k in the set.
-fn lower(due: &mut [u8; 1024], base: u32, stride: u32, set: u32)
+fn lower(due: &mut [u8; PAIRS], base: u32, stride: u32, set: u32)
     requires { ⌜ (base + 31 * stride < pairs) × (0 < stride) ⌝ }
     requires { ⌜ allDue (now due) (placesOf base stride set) ≡ true ⌝ }
     ensures { λ _. ⌜ now (due .exit) ≡ lowered (now (due .entry)) (placesOf base stride set) ⌝ }
@@ -151,7 +152,7 @@ fn lower(due: &mut [u8; 1024], base: u32, stride: u32, set: u32)
 }
 
 // Adds one to each place base + k * stride, for k in the set.
-fn raise(due: &mut [u8; 1024], base: u32, stride: u32, set: u32)
+fn raise(due: &mut [u8; PAIRS], base: u32, stride: u32, set: u32)
     requires { ⌜ (base + 31 * stride < pairs) × (0 < stride) ⌝ }
     requires { ⌜ State 254 (now due) ⌝ }
     ensures { λ _. ⌜ now (due .exit) ≡ raised (now (due .entry)) (placesOf base stride set) ⌝ }

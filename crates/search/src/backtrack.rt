@@ -3,7 +3,10 @@
 // written on the way back from a sequence that was found, and at no other time.
 
 use crate::Outcome;
+use net::LISTS;
+use net::PLACES;
 use net::SETS;
+use obligations::PAIRS;
 use obligations::state;
 ghost use mathlib.Core.Path.{_≡_};
 ghost use Prim.Native.Nat.{_+_, _*_, _<_, _≤_};
@@ -21,15 +24,15 @@ ghost use Rattle.search.specs.Backtrack.{searchLent, searchTaken, NextPo
 // An input set that isn't possible fails with every output set, so the pairs of all those up to the next possible one are
 // counted at once.
 pub fn search_inputs<'a>(
-    inputs: &'a [u32; 512],
-    input_len: &'a [u32; 32],
-    outputs: &'a [u32; 512],
-    output_len: &'a [u32; 32],
+    inputs: &'a [u32; PLACES],
+    input_len: &'a [u32; LISTS],
+    outputs: &'a [u32; PLACES],
+    output_len: &'a [u32; LISTS],
     trace: &[u32],
     at: usize,
     budget: u64,
     trials: u64,
-    due: &mut [u8; 1024],
+    due: &mut [u8; PAIRS],
     out: &mut [u32],
 ) -> Outcome
     requires { ⌜ Sides (now inputs) (now «input_len») × Sides (now outputs) (now «output_len») ⌝ }
@@ -82,16 +85,16 @@ pub fn search_inputs<'a>(
 // The search from position `at` on with the input set x, for which `due` has been lowered already: the output sets in
 // their order.
 fn search_outputs<'a>(
-    inputs: &'a [u32; 512],
-    input_len: &'a [u32; 32],
-    outputs: &'a [u32; 512],
-    output_len: &'a [u32; 32],
+    inputs: &'a [u32; PLACES],
+    input_len: &'a [u32; LISTS],
+    outputs: &'a [u32; PLACES],
+    output_len: &'a [u32; LISTS],
     trace: &[u32],
     at: usize,
     x: u32,
     budget: u64,
     trials: u64,
-    due: &mut [u8; 1024],
+    due: &mut [u8; PAIRS],
     out: &mut [u32],
 ) -> Outcome
     requires { ⌜ Sides (now inputs) (now «input_len») × Sides (now outputs) (now «output_len») ⌝ }
@@ -141,7 +144,7 @@ fn search_outputs<'a>(
 
 // How many of activity a's n input sets stand before the next possible one, where `from` have been looked at already; n
 // if none is. Most sets that a search looks at aren't possible, so this loop does nothing but test.
-fn next_possible(due: &[u8; 1024], inputs: &[u32; 512], a: u32, from: u32, n: u32) -> u32
+fn next_possible(due: &[u8; PAIRS], inputs: &[u32; PLACES], a: u32, from: u32, n: u32) -> u32
     requires { ⌜ (a < activities) × (from ≤ n) × (n ≤ sets) × (length (now inputs) ≡ places) ⌝ }
     ensures { λ r. ⌜ NextPossible (now (due .entry)) (now (inputs .entry)) a from n r ⌝ }
 {
@@ -157,7 +160,7 @@ fn next_possible(due: &[u8; 1024], inputs: &[u32; 512], a: u32, from: u32, n: u3
 }
 
 // Past the last position: found if nothing is due any more.
-fn at_end(due: &[u8; 1024], trials: u64) -> Outcome
+fn at_end(due: &[u8; PAIRS], trials: u64) -> Outcome
     requires { ⌜ length (now due) ≡ pairs ⌝ }
     ensures { λ r. ⌜ outcomeMeans r ≡ endSays (later trials (atEnd (allZero (now (due .entry))))) ⌝ }
 {
@@ -169,7 +172,7 @@ fn at_end(due: &[u8; 1024], trials: u64) -> Outcome
 }
 
 // How many sets are on activity a's side.
-fn side_len(lengths: &[u32; 32], a: u32) -> u32
+fn side_len(lengths: &[u32; LISTS], a: u32) -> u32
     requires { ⌜ (a < activities) × (length (now lengths) ≡ activities) ⌝ }
     ensures { λ r. ⌜ r ≡ getD (now (lengths .entry)) a 0 ⌝ }
 {
@@ -177,7 +180,7 @@ fn side_len(lengths: &[u32; 32], a: u32) -> u32
 }
 
 // The set with k others before it on activity a's side.
-fn set_at(masks: &[u32; 512], a: u32, k: u32) -> u32
+fn set_at(masks: &[u32; PLACES], a: u32, k: u32) -> u32
     requires { ⌜ (a < activities) × (k < sets) × (length (now masks) ≡ places) ⌝ }
     ensures { λ r. ⌜ r ≡ getD (now (masks .entry)) (sets * a + k) 0 ⌝ }
 {

@@ -3,9 +3,12 @@
 use crate::Outcome;
 use crate::ReplayAnswer;
 use crate::backtrack;
+use net::LISTS;
 use net::Net;
+use net::PLACES;
 use net::is_orderly;
 use net::refusal;
+use obligations::PAIRS;
 use obligations::POSITIONS;
 use obligations::trace;
 ghost use mathlib.Core.Path.{_≡_};
@@ -85,10 +88,10 @@ fn replay_checked(net: Net, trace: &[u32], budget: u64, out: &mut [u32]) -> Outc
 pub fn replay_lent<'a>(
     start: u32,
     end: u32,
-    inputs: &'a [u32; 512],
-    input_len: &'a [u32; 32],
-    outputs: &'a [u32; 512],
-    output_len: &'a [u32; 32],
+    inputs: &'a [u32; PLACES],
+    input_len: &'a [u32; LISTS],
+    outputs: &'a [u32; PLACES],
+    output_len: &'a [u32; LISTS],
     trace: &[u32],
     budget: u64,
     out: &mut [u32],
@@ -100,7 +103,7 @@ pub fn replay_lent<'a>(
     if !trace::is_shaped(trace, 1, trace.len(), start, end) {
         return Outcome::Failed { trials: 0 };
     }
-    let mut due = [0u8; 1024];
+    let mut due = [0u8; PAIRS];
     backtrack::search_inputs(
         inputs,
         input_len,
