@@ -45,18 +45,18 @@ returns c =
     let a = c .before .before .before .before .before .before .args in
     let l = c .before .before .before .before .loop in
     let f = c .before .before .before .find-byte in
-    sym (l .inv .1 ∙ list-refused (now (a .s)) (l .at) (a .e) (f .result) (l .low) (l .set) (search needs) (search needs) (f .ensures .exact) (sym (c .before .before .read-number .ensures) ∙ c .enum-told .given .1))
+    sym (l .inv .1 ∙ list-refused (now (a .s)) (l .at) (a .e) (f .result) (l .low) (l .set) (search needs) (search needs) (f .ensures .exact) (rw (c .before .before .read-number .ensures) at (c .enum-told .given .1)))
 
 returns-2 : tie.Need-returns-2 Inv-loop μ-loop
 returns-2 c =
     let a = c .before .before .before .before .before .before .before .before .args in
     let l = c .before .before .before .before .before .before .loop in
     let f = c .before .before .before .before .before .find-byte in
-    sym (l .inv .1 ∙ list-low (now (a .s)) (l .at) (a .e) (f .result) (l .low) (l .set) (search needs) (search needs) (f .ensures .exact) (c .before .before .n .given .0 .0) (sym (c .before .before .before .before .read-number .ensures) ∙ c .before .before .n .given .1) (c .if1 .taken))
+    sym (l .inv .1 ∙ list-low (now (a .s)) (l .at) (a .e) (f .result) (l .low) (l .set) (search needs) (search needs) (f .ensures .exact) (c .before .before .n .given .0 .0) (rw (c .before .before .before .before .read-number .ensures) at (c .before .before .n .given .1)) (c .if1 .taken))
 
 -- a member that was read is at most 31
 member-most : (c : tie.Else1 Inv-loop μ-loop) → c .before .before .n .given .0 .0 ≤ 31
-member-most c = parse-most 31 _ _ (sym (c .before .before .before .before .read-number .ensures) ∙ c .before .before .n .given .1)
+member-most c = parse-most 31 _ _ (rw (c .before .before .before .before .read-number .ensures) at (c .before .before .n .given .1))
 
 with-requires : tie.Need-with-requires Inv-loop μ-loop
 with-requires c κs = search needs
@@ -69,7 +69,7 @@ returns-3 c =
     let a = c .before .before .before .before .before .before .before .before .before .before .args in
     let l = c .before .before .before .before .before .before .before .before .loop in
     let f = c .before .before .before .before .before .before .before .find-byte in
-    sym (l .inv .1 ∙ list-last (now (a .s)) (l .at) (a .e) (f .result) (l .low) (l .set) (search needs) (search needs) (f .ensures .exact) (c .before .before .before .before .n .given .0 .0) (sym (c .before .before .before .before .before .before .read-number .ensures) ∙ c .before .before .before .before .n .given .1) (search needs) (c .if2 .taken) ∙ ap Set (sym (c .before .with .ensures)))
+    sym (l .inv .1 ∙ list-last (now (a .s)) (l .at) (a .e) (f .result) (l .low) (l .set) (search needs) (search needs) (f .ensures .exact) (c .before .before .before .before .n .given .0 .0) (rw (c .before .before .before .before .before .before .read-number .ensures) at (c .before .before .before .before .n .given .1)) (search needs) (c .if2 .taken) ∙ ap Set (sym (c .before .with .ensures)))
 
 add-at : tie.Need-add-at Inv-loop μ-loop
 add-at c = search needs
@@ -83,7 +83,7 @@ loop-again c =
     let l = c .before .before .before .before .before .before .before .before .loop in
     let f = c .before .before .before .before .before .before .before .find-byte in
     let k = c .before .before .before .before .n .given .0 .0 in
-    (search needs, l .inv .1 ∙ list-more (now (a .s)) (l .at) (a .e) (f .result) (l .low) (l .set) (search needs) (search needs) (f .ensures .exact) k (sym (c .before .before .before .before .before .before .read-number .ensures) ∙ c .before .before .before .before .n .given .1) (search needs) (search needs) ∙ ap (λ (m : ℕ). readFields (k + 1) m (split space (slice (f .result + 1) (a .e) (now (a .s))))) (sym (c .before .with .ensures)))
+    (search needs, l .inv .1 ∙ list-more (now (a .s)) (l .at) (a .e) (f .result) (l .low) (l .set) (search needs) (search needs) (f .ensures .exact) k (rw (c .before .before .before .before .before .before .read-number .ensures) at (c .before .before .before .before .n .given .1)) (search needs) (search needs) ∙ ap (λ (m : ℕ). readFields (k + 1) m (split space (slice (f .result + 1) (a .e) (now (a .s))))) (sym (c .before .with .ensures)))
 
 pub read-members-spec : {M : Type 1} → statement M
 read-members-spec =
