@@ -46,10 +46,9 @@ module _ (s : List ℕ) (i e n : ℕ) (q : e ≡ lineEnd s i) (m : n ≡ nextLin
 
   -- a row's line, by what became of its set
   module _ (k : i < length s) (line : ℕ) (net : Net) (row : RowLine) (r : row ≡ readSetRow (slice i e s)) where
-    pub rows-more : (net′ : Net) → rowPut (rowSays net row) ≡ row-put.Put → net′ ≡ rowGives net row
-        → readRows line net (lines (drop i s)) ≡ readRows (line + 1) net′ (lines (drop n s))
+    pub rows-more : rowPut (rowSays net row) ≡ row-put.Put → readRows line net (lines (drop i s)) ≡ readRows (line + 1) (rowGives net row) (lines (drop n s))
     unfolding readRows
-    rows-more net′ p g = rw (lines-step s i e n k q m, ← r, row-put-ok (rowSays net row) p, g)
+    rows-more p = rw (lines-step s i e n k q m, ← r, row-put-ok (rowSays net row) p)
 
     pub rows-bad : (j : ℕ) → rowPut (rowSays net row) ≡ row-put.Refused j → readRows line net (lines (drop i s)) ≡ refusedAt j line
     unfolding readRows

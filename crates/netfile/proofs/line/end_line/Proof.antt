@@ -69,7 +69,7 @@ returns-2 : tie.Need-returns-2
 returns-2 c =
     let p = c .before .before in
     let a = p .before .before .before .before .before .before .args in
-    sym (end-other-word (now (a .word)) (slice (a .i) (a .e) (now (a .s))) _ _ _ (three p) (sym (c .before .same-bytes .ensures) ∙ not-true _ (c .if2 .taken)))
+    sym (end-other-word (now (a .word)) (slice (a .i) (a .e) (now (a .s))) _ _ _ (three p) (rw (← c .before .same-bytes .ensures) (not-true _ (c .if2 .taken))))
 
 add-if3 : tie.Need-add-if3
 add-if3 c = omega (arith, within (c .before .before))
@@ -79,7 +79,7 @@ returns-3 c =
     let p = c .before .before .before in
     let a = p .before .before .before .before .before .before .args in
     let k = p .find-byte2 .result in
-    sym (end-members (now (a .word)) (slice (a .i) (a .e) (now (a .s))) _ _ _ (three p) (sym (c .before .before .same-bytes .ensures) ∙ not-false _ (c .before .if2 .left)) (part-filled (now (a .s)) (k + 1) (a .e) (c .if3 .taken) (search needs)))
+    sym (end-members (now (a .word)) (slice (a .i) (a .e) (now (a .s))) _ _ _ (three p) (rw (← c .before .before .same-bytes .ensures) (not-false _ (c .before .if2 .left))) (part-filled (now (a .s)) (k + 1) (a .e) (c .if3 .taken) (search needs)))
 
 -- past the three tests only the number is left
 plain : (c : tie.Else3)
@@ -91,7 +91,7 @@ plain c =
     let a = p .before .before .before .before .before .before .args in
     let k = p .find-byte2 .result in
     let z : k + 1 ≡ a .e = omega (arith, within p) in
-    end-plain (now (a .word)) (slice (a .i) (a .e) (now (a .s))) _ _ _ (three p) (sym (c .before .before .same-bytes .ensures) ∙ not-false _ (c .before .if2 .left)) (part-empty (now (a .s)) (k + 1) (a .e) z)
+    end-plain (now (a .word)) (slice (a .i) (a .e) (now (a .s))) _ _ _ (three p) (rw (← c .before .before .same-bytes .ensures) (not-false _ (c .before .if2 .left))) (part-empty (now (a .s)) (k + 1) (a .e) z)
 
 add-read-number : tie.Need-add-read-number
 add-read-number c = search needs
@@ -109,10 +109,10 @@ enum-told : tie.Need-enum-told
 enum-told c = search needs
 
 returns-4 : tie.Need-returns-4
-returns-4 c = sym (plain (c .before .before .before .before) ∙ ap endNumber (sym (c .before .before .before .read-number .ensures) ∙ c .before .n .given .1))
+returns-4 c = sym (plain (c .before .before .before .before) ∙ ap endNumber (rw (c .before .before .before .read-number .ensures) at (c .before .n .given .1)))
 
 returns-5 : tie.Need-returns-5
-returns-5 c = sym (plain (c .before .before .before) ∙ ap endNumber (sym (c .before .before .read-number .ensures) ∙ c .enum-told .given .1))
+returns-5 c = sym (plain (c .before .before .before) ∙ ap endNumber (rw (c .before .before .read-number .ensures) at (c .enum-told .given .1)))
 
 pub end-line-spec : {M : Type 1} → statement M
 end-line-spec =

@@ -73,7 +73,7 @@ returns-2 : tie.Need-returns-2
 returns-2 c =
     let p = c .before .before .before .before in
     let a = p .before .before .before .before .before .args in
-    c .row-rest .ensures ∙ sym (row-in (slice (a .i) (a .e) (now (a .s))) _ _ _ (three p) (sym (c .before .before .same-bytes .ensures) ∙ c .before .if2 .taken))
+    rw (row-in (slice (a .i) (a .e) (now (a .s))) _ _ _ (three p) (rw (c .before .before .same-bytes .ensures) at (c .before .if2 .taken))) (c .row-rest .ensures)
 
 slice-aggregate-same-bytes-2 : tie.Need-slice-aggregate-same-bytes-2
 slice-aggregate-same-bytes-2 c = search needs
@@ -91,13 +91,13 @@ returns-3 : tie.Need-returns-3
 returns-3 c =
     let p = c .before .before .before .before .before .before .before in
     let a = p .before .before .before .before .before .args in
-    c .row-rest2 .ensures ∙ sym (row-out (slice (a .i) (a .e) (now (a .s))) _ _ _ (three p) (sym (c .before .before .before .before .before .same-bytes .ensures) ∙ c .before .before .before .before .if2 .left) (sym (c .before .before .same-bytes2 .ensures) ∙ c .before .if3 .taken))
+    rw (row-out (slice (a .i) (a .e) (now (a .s))) _ _ _ (three p) (rw (c .before .before .before .before .before .same-bytes .ensures) at (c .before .before .before .before .if2 .left)) (rw (c .before .before .same-bytes2 .ensures) at (c .before .if3 .taken))) (c .row-rest2 .ensures)
 
 returns-4 : tie.Need-returns-4
 returns-4 c =
     let p = c .before .before .before .before .before .before in
     let a = p .before .before .before .before .before .args in
-    sym (row-other-word (slice (a .i) (a .e) (now (a .s))) _ _ _ (three p) (sym (c .before .before .before .before .same-bytes .ensures) ∙ c .before .before .before .if2 .left) (sym (c .before .same-bytes2 .ensures) ∙ c .if3 .left))
+    sym (row-other-word (slice (a .i) (a .e) (now (a .s))) _ _ _ (three p) (rw (c .before .before .before .before .same-bytes .ensures) at (c .before .before .before .if2 .left)) (rw (c .before .same-bytes2 .ensures) at (c .if3 .left)))
 
 pub row-line-spec : {M : Type 1} → statement M
 row-line-spec =

@@ -1,5 +1,5 @@
 -- `read_end` meets its contract: by what line 3 says, and then by whether the ends are equal. Assumes nothing.
-use mathlib.Core.Path.{_≡_, refl, sym, _∙_}
+use mathlib.Core.Path.{_≡_, refl, _∙_}
 use mathlib.Core.Bool.{true}
 use borrow.Author.Needs.{needs}
 use borrow.Author.Tests.{eq-eqb, ne-eqb}
@@ -33,7 +33,7 @@ returns : tie.Need-returns
 returns c =
     let a = c .before .before .before .before .before .before .before .before .before .args in
     let f = c .before .before .before .before .before .before .before .line-end in
-    rw (end-line (now (a .text)) (a .i) (f .result) (nextLine (now (a .text)) (f .result)) (f .ensures .exact) refl (search needs) (a .start), sym (c .before .before .before .before .before .end-line .ensures) ∙ c .before .before .before .line .given .1, eq-eqb _ _ (c .before .if1 .taken)) (c .refused-reading .ensures)
+    rw (end-line (now (a .text)) (a .i) (f .result) (nextLine (now (a .text)) (f .result)) (f .ensures .exact) refl (search needs) (a .start), ← c .before .before .before .before .before .end-line .ensures, c .before .before .before .line .given .1, eq-eqb _ _ (c .before .if1 .taken)) (c .refused-reading .ensures)
 
 fresh-requires : tie.Need-fresh-requires
 fresh-requires c κs = search needs
@@ -56,15 +56,15 @@ returns-2 c =
     let f = c .before .before .before .before .before .before .before .before .before .line-end in
     let g = c .before .next-line in
     let end = c .before .before .before .before .before .line .given in
-    let e : endsOk (a .start) (end .0 .0) ≡ true = facts-ends (a .start) (end .0 .0) (search needs) (end-is _ _ _ (sym (c .before .before .before .before .before .before .before .end-line .ensures) ∙ end .1) .is-activity) (c .before .before .before .if1 .left) in
-    rw (end-line (now (a .text)) (a .i) (f .result) (g .result) (f .ensures .exact) (g .ensures) (search needs) (a .start), sym (c .before .before .before .before .before .before .before .end-line .ensures) ∙ end .1, ne-eqb _ _ (c .before .before .before .if1 .left))
+    let e : endsOk (a .start) (end .0 .0) ≡ true = facts-ends (a .start) (end .0 .0) (search needs) (end-is _ _ _ (rw (c .before .before .before .before .before .before .before .end-line .ensures) at (end .1)) .is-activity) (c .before .before .before .if1 .left) in
+    rw (end-line (now (a .text)) (a .i) (f .result) (g .result) (f .ensures .exact) (g .ensures) (search needs) (a .start), ← c .before .before .before .before .before .before .before .end-line .ensures, end .1, ne-eqb _ _ (c .before .before .before .if1 .left))
     (rw (c .before .before .fresh .ensures .gives ∙ fresh-given (a .start) (end .0 .0) e) at (c .read-rows .ensures))
 
 returns-3 : tie.Need-returns-3
 returns-3 c =
     let a = c .before .before .before .before .before .before .before .before .args in
     let f = c .before .before .before .before .before .before .line-end in
-    rw (end-line (now (a .text)) (a .i) (f .result) (nextLine (now (a .text)) (f .result)) (f .ensures .exact) refl (search needs) (a .start), sym (c .before .before .before .before .end-line .ensures) ∙ c .before .before .line2 .given .1) (c .refused-reading2 .ensures)
+    rw (end-line (now (a .text)) (a .i) (f .result) (nextLine (now (a .text)) (f .result)) (f .ensures .exact) refl (search needs) (a .start), ← c .before .before .before .before .end-line .ensures, c .before .before .line2 .given .1) (c .refused-reading2 .ensures)
 
 pub read-end-spec : {M : Type 1} → statement M
 read-end-spec =

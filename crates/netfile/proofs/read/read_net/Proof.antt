@@ -1,5 +1,5 @@
 -- `read_net` meets its contract: the byte limit, then the header, then the lines after it. Assumes nothing.
-use mathlib.Core.Path.{refl, sym, _∙_}
+use mathlib.Core.Path.{refl}
 use borrow.Author.Needs.{needs}
 use borrow.Author.Tests.{not-true, not-false}
 use denote.Ref.{now}
@@ -30,7 +30,8 @@ returns-2 : tie.Need-returns-2
 returns-2 c =
     let a = c .before .before .before .before .before .before .before .args in
     let f = c .before .before .before .before .line-end in
-    rw (read-short (now (a .text)) (c .before .before .before .before .before .if1 .left), header-line (now (a .text)) 0 (f .result) (nextLine (now (a .text)) (f .result)) (f .ensures .exact) refl (search needs), sym (c .before .before .same-bytes .ensures) ∙ not-true _ (c .before .if2 .taken)) (c .refused-reading2 .ensures)
+    let h = c .before .before .same-bytes in
+    rw (read-short (now (a .text)) (c .before .before .before .before .before .if1 .left), header-line (now (a .text)) 0 (f .result) (nextLine (now (a .text)) (f .result)) (f .ensures .exact) refl (search needs), ← h .ensures, not-true (h .result) (c .before .if2 .taken)) (c .refused-reading2 .ensures)
 
 next-line-requires : tie.Need-next-line-requires
 next-line-requires c κs = search needs
@@ -43,7 +44,8 @@ returns-3 c =
     let a = c .before .before .before .before .before .before .before .before .args in
     let f = c .before .before .before .before .before .line-end in
     let g = c .before .next-line in
-    rw (read-short (now (a .text)) (c .before .before .before .before .before .before .if1 .left), header-line (now (a .text)) 0 (f .result) (g .result) (f .ensures .exact) (g .ensures) (search needs), sym (c .before .before .before .same-bytes .ensures) ∙ not-false _ (c .before .before .if2 .left)) (c .read-start .ensures)
+    let h = c .before .before .before .same-bytes in
+    rw (read-short (now (a .text)) (c .before .before .before .before .before .before .if1 .left), header-line (now (a .text)) 0 (f .result) (g .result) (f .ensures .exact) (g .ensures) (search needs), ← h .ensures, not-false (h .result) (c .before .before .if2 .left)) (c .read-start .ensures)
 
 pub read-net-spec : {M : Type 1} → statement M
 read-net-spec =

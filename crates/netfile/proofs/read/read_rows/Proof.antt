@@ -1,7 +1,7 @@
 -- `read_rows` meets its contract. The loop's invariant: the arrays are those of an orderly net, and what the rows say is what the
 -- rows left say from that net on. Assumes nothing.
 use Prim.Native.Nat.{_+_, _-_, _≤_}
-use mathlib.Core.Path.{_≡_, refl, sym, _∙_}
+use mathlib.Core.Path.{_≡_, refl, _∙_}
 use mathlib.Core.Bool.{true}
 use borrow.Author.Needs.{needs}
 use denote.Ref.{now}
@@ -37,7 +37,7 @@ row-line-requires : tie.Need-row-line-requires Inv-loop μ-loop
 row-line-requires c κs = search needs
 
 put-row-requires : tie.Need-put-row-requires Inv-loop μ-loop
-put-row-requires c κs = (c .before .before .before .before .before .before .before .loop .inv .2, λ side a m q. row-exactly _ side a m .0 (sym (c .before .before .before .before .row-line .ensures) ∙ q) .is-activity)
+put-row-requires c κs = (c .before .before .before .before .before .before .before .loop .inv .2, λ side a m q. row-exactly _ side a m .0 (rw (c .before .before .before .before .row-line .ensures) at q) .is-activity)
 
 enum-known-put : tie.Need-enum-known-put Inv-loop μ-loop
 enum-known-put c = search needs
@@ -53,7 +53,7 @@ returns c =
     let e = c .before .before .before .before .before .before .before .before .before .before .line-end in
     let row = c .before .before .before .before .before .before .before .before .before .row-line in
     let put = c .before .before .put .given in
-    rw (l .inv .3, rows-bad (now (a .text)) (l .i) (e .result) (nextLine (now (a .text)) (e .result)) (e .ensures .exact) refl (search needs) (l .line) (netOf (net .start) (net .end) (l .inputs) (l .input-len) (l .outputs) (l .output-len)) (row .result) (row .ensures) (put .0 .0) (sym (c .before .before .before .before .put-row .ensures .says) ∙ put .1))
+    rw (l .inv .3, rows-bad (now (a .text)) (l .i) (e .result) (nextLine (now (a .text)) (e .result)) (e .ensures .exact) refl (search needs) (l .line) (netOf (net .start) (net .end) (l .inputs) (l .input-len) (l .outputs) (l .output-len)) (row .result) (row .ensures) (put .0 .0) (rw (c .before .before .before .before .put-row .ensures .says) at (put .1)))
     (c .refused-reading .ensures)
 
 enum-told : tie.Need-enum-told Inv-loop μ-loop
@@ -79,7 +79,7 @@ loop-again c =
       search needs,
       search needs,
       rw (put .gives) (row-orderly (netOf (net .start) (net .end) (l .inputs) (l .input-len) (l .outputs) (l .output-len)) (row .result) (l .inv .2)),
-      l .inv .3 ∙ rows-more (now (a .text)) (l .i) (e .result) (c .next-line .result) (e .ensures .exact) (c .next-line .ensures) (search needs) (l .line) (netOf (net .start) (net .end) (l .inputs) (l .input-len) (l .outputs) (l .output-len)) (row .result) (row .ensures) _ (sym (put .says) ∙ c .before .enum-told .given .1) (put .gives),
+      rw (put .gives) (l .inv .3 ∙ rows-more (now (a .text)) (l .i) (e .result) (c .next-line .result) (e .ensures .exact) (c .next-line .ensures) (search needs) (l .line) (netOf (net .start) (net .end) (l .inputs) (l .input-len) (l .outputs) (l .output-len)) (row .result) (row .ensures) (rw (put .says) at (c .before .enum-told .given .1))),
     )
 
 returns-2 : tie.Need-returns-2 Inv-loop μ-loop

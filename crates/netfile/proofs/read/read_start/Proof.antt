@@ -1,5 +1,5 @@
 -- `read_start` meets its contract: by what line 2 says. Assumes nothing.
-use mathlib.Core.Path.{refl, sym, _∙_}
+use mathlib.Core.Path.{refl}
 use borrow.Author.Needs.{needs}
 use denote.Ref.{now}
 use Rattle.text.specs.Inner.{nextLine}
@@ -24,7 +24,7 @@ next-line-requires : tie.Need-next-line-requires
 next-line-requires c κs = search needs
 
 read-end-requires : tie.Need-read-end-requires
-read-end-requires c κs = (search needs, search needs, end-is _ _ _ (sym (c .before .before .before .before .end-line .ensures) ∙ c .before .before .line .given .1) .is-activity)
+read-end-requires c κs = (search needs, search needs, end-is _ _ _ (rw (c .before .before .before .before .end-line .ensures) at (c .before .before .line .given .1)) .is-activity)
 
 enum-known-line-2 : tie.Need-enum-known-line-2
 enum-known-line-2 c = search needs
@@ -37,13 +37,13 @@ returns c =
     let a = c .before .before .before .before .before .before .before .before .before .args in
     let f = c .before .before .before .before .before .before .before .line-end in
     let g = c .before .next-line in
-    rw (start-line (now (a .text)) (a .i) (f .result) (g .result) (f .ensures .exact) (g .ensures) (search needs), sym (c .before .before .before .before .before .end-line .ensures) ∙ c .before .before .before .line .given .1) (c .read-end .ensures)
+    rw (start-line (now (a .text)) (a .i) (f .result) (g .result) (f .ensures .exact) (g .ensures) (search needs), ← c .before .before .before .before .before .end-line .ensures, c .before .before .before .line .given .1) (c .read-end .ensures)
 
 returns-2 : tie.Need-returns-2
 returns-2 c =
     let a = c .before .before .before .before .before .before .before .before .args in
     let f = c .before .before .before .before .before .before .line-end in
-    rw (start-line (now (a .text)) (a .i) (f .result) (nextLine (now (a .text)) (f .result)) (f .ensures .exact) refl (search needs), sym (c .before .before .before .before .end-line .ensures) ∙ c .before .before .line2 .given .1) (c .refused-reading .ensures)
+    rw (start-line (now (a .text)) (a .i) (f .result) (nextLine (now (a .text)) (f .result)) (f .ensures .exact) refl (search needs), ← c .before .before .before .before .end-line .ensures, c .before .before .line2 .given .1) (c .refused-reading .ensures)
 
 pub read-start-spec : {M : Type 1} → statement M
 read-start-spec =
