@@ -101,7 +101,7 @@ returns-4 c =
     let x = readLine (h .0 .1 .0) (slice (h .0 .0) e s) in
     let q = next-here s k (length o) f (h .0 .0) (h .0 .1 .0) p e (search needs) (c .before .before .before .line-end .ensures .exact) in
     let n : isRow (c .before .before .row-line .result) ≡ false = sym (c .before .is-row .ensures) ∙ not-true _ (c .if3 .taken) in
-    let m : c .before .before .row-line .result ≡ answerOf (readNext s k (length o)) = c .before .before .row-line .ensures ∙ sym (ap answerOf q) in
+    let m : c .before .before .row-line .result ≡ answerOf (readNext s k (length o)) = rw q (c .before .before .row-line .ensures) in
     record { reads = read-stays (readNext s k (length o)) (c .before .before .row-line .result) o o m n refl; goes-on = cursor-stays s k (readNext s k (length o)) (ap isRow (sym m) ∙ n) }
 
 fill-row-requires : tie.Need-fill-row-requires
@@ -116,7 +116,7 @@ fill-row-requires c κs =
     let e = c .before .before .before .before .line-end .result in
     let x = readLine (h .0 .1 .0) (slice (h .0 .0) e s) in
     let q = next-here s k (length o) f (h .0 .0) (h .0 .1 .0) p e (search needs) (c .before .before .before .before .line-end .ensures .exact) in
-    let g = row-given x (ap isRow (sym (c .before .before .before .row-line .ensures)) ∙ sym (c .before .before .is-row .ensures) ∙ not-false _ (c .before .if3 .left)) in
+    let g = row-given x (rw (← c .before .before .before .row-line .ensures, ← c .before .before .is-row .ensures) (not-false _ (c .before .if3 .left))) in
     let w = line-row (h .0 .1 .0) (slice (h .0 .0) e s) (g .0) (g .1) (g .2) in
     (search needs, search needs, line-is-row _ w (sizes-room s (length o) f))
 
@@ -135,7 +135,7 @@ add-t18 c =
     let e = c .before .before .before .before .before .before .before .before .line-end .result in
     let x = readLine (h .0 .1 .0) (slice (h .0 .0) e s) in
     let q = next-here s k (length o) f (h .0 .0) (h .0 .1 .0) p e (search needs) (c .before .before .before .before .before .before .before .before .line-end .ensures .exact) in
-    let g = row-given x (ap isRow (sym (c .before .before .before .before .before .before .before .row-line .ensures)) ∙ sym (c .before .before .before .before .before .before .is-row .ensures) ∙ not-false _ (c .before .before .before .before .before .if3 .left)) in
+    let g = row-given x (rw (← c .before .before .before .before .before .before .before .row-line .ensures, ← c .before .before .before .before .before .before .is-row .ensures) (not-false _ (c .before .before .before .before .before .if3 .left))) in
     let w = line-row (h .0 .1 .0) (slice (h .0 .0) e s) (g .0) (g .1) (g .2) in
     omega (arith, w .line-low)
 
@@ -154,9 +154,9 @@ returns-5 c =
     let e = c .before .before .before .before .before .before .before .before .line-end .result in
     let x = readLine (h .0 .1 .0) (slice (h .0 .0) e s) in
     let q = next-here s k (length o) f (h .0 .0) (h .0 .1 .0) p e (search needs) (c .before .before .before .before .before .before .before .before .line-end .ensures .exact) in
-    let g = row-given x (ap isRow (sym (c .before .before .before .before .before .before .before .row-line .ensures)) ∙ sym (c .before .before .before .before .before .before .is-row .ensures) ∙ not-false _ (c .before .before .before .before .before .if3 .left)) in
+    let g = row-given x (rw (← c .before .before .before .before .before .before .before .row-line .ensures, ← c .before .before .before .before .before .before .is-row .ensures) (not-false _ (c .before .before .before .before .before .if3 .left))) in
     let w = line-row (h .0 .1 .0) (slice (h .0 .0) e s) (g .0) (g .1) (g .2) in
-    let m : c .before .before .before .before .before .before .before .row-line .result ≡ answerOf (readNext s k (length o)) = c .before .before .before .before .before .before .before .row-line .ensures ∙ sym (ap answerOf q) in
+    let m : c .before .before .before .before .before .before .before .row-line .result ≡ answerOf (readNext s k (length o)) = rw q (c .before .before .before .before .before .before .before .row-line .ensures) in
     record { reads = read-given (readNext s k (length o)) (c .before .before .before .before .before .before .before .row-line .result) (g .0) (g .1) o o _ m (q ∙ g .2) refl (line-filled o _ w (c .before .before .before .fill-row .ensures)); goes-on = cursor-goes s k (h .0 .0) (h .0 .1 .0) e (g .0) (g .1) p (c .before .before .before .before .before .before .before .before .line-end .ensures .exact) (readNext s k (length o)) (q ∙ g .2) (c .next-line .result) (c .next-line .ensures) }
 
 pub next-row-spec : {M : Type 1} → statement M

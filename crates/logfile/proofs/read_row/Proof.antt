@@ -96,8 +96,8 @@ returns-4 c =
     let l = c .before .before .before .before .before .loop in
     let e = c .before .before .before .line-end .result in
     let n : isRow (c .before .before .row-line .result) ≡ false = sym (c .before .is-row .ensures) ∙ not-true _ (c .if3 .taken) in
-    let q = going-stays s (a .row) (length o) (l .at) (l .line) (l .inv .0) e (search needs) (c .before .before .before .line-end .ensures .exact) (ap isRow (sym (c .before .before .row-line .ensures)) ∙ n) in
-    read-stays (readRow s (a .row) (length o)) (c .before .before .row-line .result) o (l .out) (c .before .before .row-line .ensures ∙ sym (ap answerOf q)) n (l .inv .1)
+    let q = going-stays s (a .row) (length o) (l .at) (l .line) (l .inv .0) e (search needs) (c .before .before .before .line-end .ensures .exact) (rw (c .before .before .row-line .ensures) at n) in
+    read-stays (readRow s (a .row) (length o)) (c .before .before .row-line .result) o (l .out) (rw q (c .before .before .row-line .ensures)) n (l .inv .1)
 
 sub-if4 : tie.Need-sub-if4 Inv-loop μ-loop
 sub-if4 c = search needs
@@ -113,7 +113,7 @@ fill-row-requires c κs =
     let l = c .before .before .before .before .before .before .before .loop in
     let e = c .before .before .before .before .before .line-end .result in
     let x = readLine (l .line) (slice (l .at) e s) in
-    let g = row-given x (ap isRow (sym (c .before .before .before .before .row-line .ensures)) ∙ sym (c .before .before .before .is-row .ensures) ∙ not-false _ (c .before .before .if3 .left)) in
+    let g = row-given x (rw (← c .before .before .before .before .row-line .ensures, ← c .before .before .before .is-row .ensures) (not-false _ (c .before .before .if3 .left))) in
     (search needs, search needs, line-is-row _ (line-row (l .line) (slice (l .at) e s) (g .0) (g .1) (g .2)) (omega (arith, sizes-room s (length o) (sym (c .before .before .before .before .before .before .before .before .before .before .before .before .before .sizes-ok .ensures) ∙ not-false _ (c .before .before .before .before .before .before .before .before .before .before .before .before .if2 .left)), ap length (l .inv .1))))
 
 same-length-2 : tie.Need-same-length-2 Inv-loop μ-loop
@@ -127,9 +127,9 @@ returns-5 c =
     let l = c .before .before .before .before .before .before .before .before .before .before .loop in
     let e = c .before .before .before .before .before .before .before .before .line-end .result in
     let x = readLine (l .line) (slice (l .at) e s) in
-    let g = row-given x (ap isRow (sym (c .before .before .before .before .before .before .before .row-line .ensures)) ∙ sym (c .before .before .before .before .before .before .is-row .ensures) ∙ not-false _ (c .before .before .before .before .before .if3 .left)) in
+    let g = row-given x (rw (← c .before .before .before .before .before .before .before .row-line .ensures, ← c .before .before .before .before .before .before .is-row .ensures) (not-false _ (c .before .before .before .before .before .if3 .left))) in
     let q = going-here s (a .row) (length o) (l .at) (l .line) (l .inv .0) e (search needs) (c .before .before .before .before .before .before .before .before .line-end .ensures .exact) (c .before .before .before .before .if4 .taken) in
-    read-given (readRow s (a .row) (length o)) (c .before .before .before .before .before .before .before .row-line .result) (g .0) (g .1) o (l .out) _ (c .before .before .before .before .before .before .before .row-line .ensures ∙ sym (ap answerOf q)) (q ∙ g .2) (l .inv .1) (line-filled (l .out) _ (line-row (l .line) (slice (l .at) e s) (g .0) (g .1) (g .2)) (c .before .before .fill-row .ensures))
+    read-given (readRow s (a .row) (length o)) (c .before .before .before .before .before .before .before .row-line .result) (g .0) (g .1) o (l .out) _ (rw q (c .before .before .before .before .before .before .before .row-line .ensures)) (q ∙ g .2) (l .inv .1) (line-filled (l .out) _ (line-row (l .line) (slice (l .at) e s) (g .0) (g .1) (g .2)) (c .before .before .fill-row .ensures))
 
 next-line-requires : tie.Need-next-line-requires Inv-loop μ-loop
 next-line-requires c κs = search needs
@@ -148,7 +148,7 @@ loop-again c =
     let l = c .before .before .before .before .before .before .before .loop in
     let e = c .before .before .before .before .before .line-end .result in
     let x = readLine (l .line) (slice (l .at) e s) in
-    let g = row-given x (ap isRow (sym (c .before .before .before .before .row-line .ensures)) ∙ sym (c .before .before .before .is-row .ensures) ∙ not-false _ (c .before .before .if3 .left)) in
+    let g = row-given x (rw (← c .before .before .before .before .row-line .ensures, ← c .before .before .before .is-row .ensures) (not-false _ (c .before .before .if3 .left))) in
     (going-more s (a .row) (length o) (l .at) (l .line) (l .inv .0) e (search needs) (c .before .before .before .before .before .line-end .ensures .exact) (g .0) (g .1) (g .2) (c .before .if4 .left) (c .next-line .result) (c .next-line .ensures), l .inv .1)
 
 same-length-3 : tie.Need-same-length-3 Inv-loop μ-loop

@@ -1,7 +1,7 @@
 -- `count_entries` meets its contract. The loop's invariant: the entries counted and those left are the trace's, and all are
 -- numbers exactly if those left are. Assumes nothing.
 use Prim.Native.Nat.{_-_}
-use mathlib.Core.Path.{sym, _∙_}
+use mathlib.Core.Path.{sym}
 use borrow.Author.Needs.{needs}
 use denote.Ref.{now}
 use lib.Seq.{slice}
@@ -45,7 +45,7 @@ returns-2 c =
     let a = c .before .before .before .before .before .before .before .args in
     let l = c .before .before .before .before .loop in
     let f = c .before .before .before .find-byte in
-    sym (counting-refused (now (a .text)) (a .i) (a .e) (l .at) (l .n) (f .result) (l .inv) (f .ensures .exact) (sym (c .before .before .read-number .ensures) ∙ c .enum-told2 .given .1))
+    sym (counting-refused (now (a .text)) (a .i) (a .e) (l .at) (l .n) (f .result) (l .inv) (f .ensures .exact) (rw (c .before .before .read-number .ensures) at (c .enum-told2 .given .1)))
 
 add-n : tie.Need-add-n Inv-loop μ-loop
 add-n c = search needs
@@ -55,7 +55,7 @@ returns-3 c =
     let a = c .before .before .before .before .before .before .before .before .args in
     let l = c .before .before .before .before .before .loop in
     let f = c .before .before .before .before .find-byte in
-    sym (counting-last (now (a .text)) (a .i) (a .e) (l .at) (l .n) (f .result) (l .inv) (f .ensures .exact) (c .before .enum-told .given .0 .0) (sym (c .before .before .before .read-number .ensures) ∙ c .before .enum-told .given .1) (c .if2 .taken))
+    sym (counting-last (now (a .text)) (a .i) (a .e) (l .at) (l .n) (f .result) (l .inv) (f .ensures .exact) (c .before .enum-told .given .0 .0) (rw (c .before .before .before .read-number .ensures) at (c .before .enum-told .given .1)) (c .if2 .taken))
 
 add-at : tie.Need-add-at Inv-loop μ-loop
 add-at c = search needs
@@ -68,7 +68,7 @@ loop-again c =
     let a = c .before .before .before .before .before .before .before .before .args in
     let l = c .before .before .before .before .before .loop in
     let f = c .before .before .before .before .find-byte in
-    counting-more (now (a .text)) (a .i) (a .e) (l .at) (l .n) (f .result) (l .inv) (f .ensures .exact) (c .before .enum-told .given .0 .0) (sym (c .before .before .before .read-number .ensures) ∙ c .before .enum-told .given .1) (search needs) (search needs)
+    counting-more (now (a .text)) (a .i) (a .e) (l .at) (l .n) (f .result) (l .inv) (f .ensures .exact) (c .before .enum-told .given .0 .0) (rw (c .before .before .before .read-number .ensures) at (c .before .enum-told .given .1)) (search needs) (search needs)
 
 pub count-entries-spec : {M : Type 1} → statement M
 count-entries-spec =

@@ -38,7 +38,7 @@ two-fields : (c : tie.After-find-byte) → let a = c .before .before .before .be
     readLine (a .line) (slice (a .i) (a .e) (now (a .text))) ≡ readFields (a .line) (slice (a .i) (c .find-byte .result) (now (a .text))) (slice (c .find-byte .result + 1) (a .e) (now (a .text)))
 two-fields c =
     let a = c .before .before .before .before .args in
-    line-fields (a .line) (now (a .text)) (a .i) (a .e) (c .find-byte .result) (search needs) (search needs) (c .find-byte .ensures .exact) (sym (c .before .before .count-byte .ensures) ∙ c .before .if1 .left)
+    line-fields (a .line) (now (a .text)) (a .i) (a .e) (c .find-byte .result) (search needs) (search needs) (c .find-byte .ensures .exact) (rw (c .before .before .count-byte .ensures) at (c .before .if1 .left))
 
 read-number-requires : tie.Need-read-number-requires
 read-number-requires c κs = search needs
@@ -57,7 +57,7 @@ returns-2 c =
     let a = c .before .before .before .before .before .before .before .before .args in
     let s = now (a .text) in
     let j = c .before .before .before .before .find-byte .result in
-    c .refused2 .ensures ∙ sym (ap answerOf (two-fields (c .before .before .before .before) ∙ row-no-sessions (a .line) (slice (a .i) j s) (slice (j + 1) (a .e) s) (sym (c .before .before .before .read-number .ensures) ∙ c .before .enum-told .given .1)))
+    c .refused2 .ensures ∙ sym (ap answerOf (two-fields (c .before .before .before .before) ∙ row-no-sessions (a .line) (slice (a .i) j s) (slice (j + 1) (a .e) s) (rw (c .before .before .before .read-number .ensures) at (c .before .enum-told .given .1))))
 
 refused-requires-3 : tie.Need-refused-requires-3
 refused-requires-3 c κs = search needs
@@ -67,7 +67,7 @@ returns-3 c =
     let a = c .before .before .before .before .before .before .before .before .before .before .args in
     let s = now (a .text) in
     let j = c .before .before .before .before .before .before .find-byte .result in
-    c .refused3 .ensures ∙ sym (ap answerOf (two-fields (c .before .before .before .before .before .before) ∙ row-zero-sessions (a .line) (slice (a .i) j s) (slice (j + 1) (a .e) s) (c .before .before .before .first .given .0 .0) (sym (c .before .before .before .before .before .read-number .ensures) ∙ c .before .before .before .first .given .1) (c .before .if2 .taken)))
+    c .refused3 .ensures ∙ sym (ap answerOf (two-fields (c .before .before .before .before .before .before) ∙ row-zero-sessions (a .line) (slice (a .i) j s) (slice (j + 1) (a .e) s) (c .before .before .before .first .given .0 .0) (rw (c .before .before .before .before .before .read-number .ensures) at (c .before .before .before .first .given .1)) (c .before .if2 .taken)))
 
 add-count-entries : tie.Need-add-count-entries
 add-count-entries c = search needs
@@ -89,7 +89,7 @@ returns-4 c =
     let a = c .before .before .before .before .before .before .before .before .before .before .before .before .before .args in
     let s = now (a .text) in
     let j = c .before .before .before .before .before .before .before .before .before .find-byte .result in
-    c .refused4 .ensures ∙ sym (ap answerOf (two-fields (c .before .before .before .before .before .before .before .before .before) ∙ row-no-entries (a .line) (slice (a .i) j s) (slice (j + 1) (a .e) s) (sym (c .before .before .before .count-entries .ensures) ∙ c .before .enum-told2 .given .1)))
+    c .refused4 .ensures ∙ sym (ap answerOf (two-fields (c .before .before .before .before .before .before .before .before .before) ∙ row-no-entries (a .line) (slice (a .i) j s) (slice (j + 1) (a .e) s) (rw (c .before .before .before .count-entries .ensures) at (c .before .enum-told2 .given .1))))
 
 refused-requires-5 : tie.Need-refused-requires-5
 refused-requires-5 c κs = search needs
@@ -99,7 +99,7 @@ returns-5 c =
     let a = c .before .before .before .before .before .before .before .before .before .before .before .before .before .before .before .args in
     let s = now (a .text) in
     let j = c .before .before .before .before .before .before .before .before .before .before .before .find-byte .result in
-    c .refused5 .ensures ∙ sym (ap answerOf (two-fields (c .before .before .before .before .before .before .before .before .before .before .before) ∙ row-long (a .line) (slice (a .i) j s) (slice (j + 1) (a .e) s) (c .before .before .before .before .before .before .before .before .first .given .0 .0) (sym (c .before .before .before .before .before .before .before .before .before .before .read-number .ensures) ∙ c .before .before .before .before .before .before .before .before .first .given .1) (search needs) (c .before .before .before .trace .given .0 .0) (sym (c .before .before .before .before .before .count-entries .ensures) ∙ c .before .before .before .trace .given .1) (c .before .if3 .taken)))
+    c .refused5 .ensures ∙ sym (ap answerOf (two-fields (c .before .before .before .before .before .before .before .before .before .before .before) ∙ row-long (a .line) (slice (a .i) j s) (slice (j + 1) (a .e) s) (c .before .before .before .before .before .before .before .before .first .given .0 .0) (rw (c .before .before .before .before .before .before .before .before .before .before .read-number .ensures) at (c .before .before .before .before .before .before .before .before .first .given .1)) (search needs) (c .before .before .before .trace .given .0 .0) (rw (c .before .before .before .before .before .count-entries .ensures) at (c .before .before .before .trace .given .1)) (c .before .if3 .taken)))
 
 add-if4 : tie.Need-add-if4
 add-if4 c = search needs
@@ -112,7 +112,7 @@ returns-6 c =
     let a = c .before .before .before .before .before .before .before .before .before .before .before .before .before .before .before .before .args in
     let s = now (a .text) in
     let j = c .before .before .before .before .before .before .before .before .before .before .before .before .find-byte .result in
-    c .refused6 .ensures ∙ sym (ap answerOf (two-fields (c .before .before .before .before .before .before .before .before .before .before .before .before) ∙ row-many (a .line) (slice (a .i) j s) (slice (j + 1) (a .e) s) (c .before .before .before .before .before .before .before .before .before .first .given .0 .0) (sym (c .before .before .before .before .before .before .before .before .before .before .before .read-number .ensures) ∙ c .before .before .before .before .before .before .before .before .before .first .given .1) (search needs) (c .before .before .before .before .trace .given .0 .0) (sym (c .before .before .before .before .before .before .count-entries .ensures) ∙ c .before .before .before .before .trace .given .1) (c .before .if4 .taken)))
+    c .refused6 .ensures ∙ sym (ap answerOf (two-fields (c .before .before .before .before .before .before .before .before .before .before .before .before) ∙ row-many (a .line) (slice (a .i) j s) (slice (j + 1) (a .e) s) (c .before .before .before .before .before .before .before .before .before .first .given .0 .0) (rw (c .before .before .before .before .before .before .before .before .before .before .before .read-number .ensures) at (c .before .before .before .before .before .before .before .before .before .first .given .1)) (search needs) (c .before .before .before .before .trace .given .0 .0) (rw (c .before .before .before .before .before .before .count-entries .ensures) at (c .before .before .before .before .trace .given .1)) (c .before .if4 .taken)))
 
 cast-t12 : tie.Need-cast-t12
 cast-t12 c = search needs
@@ -122,7 +122,7 @@ returns-7 c =
     let a = c .before .before .before .before .before .before .before .before .before .before .before .before .before .before .before .args in
     let s = now (a .text) in
     let j = c .before .before .before .before .before .before .before .before .before .before .before .find-byte .result in
-    sym (ap answerOf (two-fields (c .before .before .before .before .before .before .before .before .before .before .before)) ∙ row-good (a .line) (slice (a .i) j s) (slice (j + 1) (a .e) s) (c .before .before .before .before .before .before .before .before .first .given .0 .0) (sym (c .before .before .before .before .before .before .before .before .before .before .read-number .ensures) ∙ c .before .before .before .before .before .before .before .before .first .given .1) (search needs) (c .before .before .before .trace .given .0 .0) (sym (c .before .before .before .before .before .count-entries .ensures) ∙ c .before .before .before .trace .given .1) (search needs) (search needs))
+    sym (ap answerOf (two-fields (c .before .before .before .before .before .before .before .before .before .before .before)) ∙ row-good (a .line) (slice (a .i) j s) (slice (j + 1) (a .e) s) (c .before .before .before .before .before .before .before .before .first .given .0 .0) (rw (c .before .before .before .before .before .before .before .before .before .before .read-number .ensures) at (c .before .before .before .before .before .before .before .before .first .given .1)) (search needs) (c .before .before .before .trace .given .0 .0) (rw (c .before .before .before .before .before .count-entries .ensures) at (c .before .before .before .trace .given .1)) (search needs) (search needs))
 
 pub row-line-spec : {M : Type 1} → statement M
 row-line-spec =
