@@ -25,7 +25,7 @@ returns : tie.Need-returns
 returns c =
     let g = c .before .before .before .before in
     let t = g .args .trace .now in
-    refused-trace-ends (g .args .net) t (shaped-trace (g .args .net .start) (g .args .net .end) t (g .args .n) (g .pre .1 .whole) ∙ sym (c .before .before .is-shaped .ensures) ∙ not-true (c .before .before .is-shaped .result) (c .before .if1 .taken)) (c .refuse .ensures)
+    refused-trace-ends (g .args .net) t (shaped-trace (g .args .net .start) (g .args .net .end) t (g .args .n) (g .pre .1 .whole) ∙ (rw (← c .before .before .is-shaped .ensures) (not-true _ (c .before .if1 .taken)))) (c .refuse .ensures)
 
 write-followed-requires : tie.Need-write-followed-requires
 write-followed-requires c κs = search needs
@@ -61,7 +61,7 @@ returns-2 c =
     let g = c .before .before .before .before .before .before .before in
     let t = g .args .trace .now in
     let e = ap bindings (front (c .before .before)) ∙ bindings-words (followed t) in
-    followed-or-full (g .args .net) t (shaped-trace (g .args .net .start) (g .args .net .end) t (g .args .n) (g .pre .1 .whole) ∙ sym (c .before .before .before .before .before .is-shaped .ensures) ∙ not-false (c .before .before .before .before .before .is-shaped .result) (c .before .before .before .before .if1 .left)) (subst (λ (s : List Binding). GainDone (g .args .net) s (c .gain .result)) e (c .gain .ensures))
+    followed-or-full (g .args .net) t (shaped-trace (g .args .net .start) (g .args .net .end) t (g .args .n) (g .pre .1 .whole) ∙ (rw (← c .before .before .before .before .before .is-shaped .ensures) (not-false _ (c .before .before .before .before .if1 .left)))) (subst (λ (s : List Binding). GainDone (g .args .net) s (c .gain .result)) e (c .gain .ensures))
 
 pub follow-positions-spec : {M : Type 1} → statement M
 follow-positions-spec =

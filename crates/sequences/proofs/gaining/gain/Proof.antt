@@ -1,6 +1,6 @@
 -- `gain` meets its contract: the loop's invariant is `Gaining`, and each way out is one of its laws. Assumes nothing.
 use Prim.Native.Nat.{_+_, _*_, _-_, _≤_}
-use mathlib.Core.Path.{_≡_, sym, ap, _∙_}
+use mathlib.Core.Path.{_≡_, sym, ap}
 use native.Mathlib.Omega.{arith}
 use borrow.Author.Needs.{needs}
 use lib.ListN.{getD}
@@ -67,7 +67,7 @@ returns c =
     (input-here ws (g .args .n) (g .pre .1) (l .i) (l .at) (c .before .before .before .before .before .before .before .before .loop-test .taken) (l .inv .1))
     (output-here ws (g .args .n) (g .pre .1) (l .i) (l .at) (c .before .before .before .before .before .before .before .before .loop-test .taken) (l .inv .1))
     (activity-below ws (g .args .n) (g .pre .1) (l .i) (l .at) (c .before .before .before .before .before .before .before .before .loop-test .taken) (l .inv .1))
-    (sym (c .before .before .before .gain-set .ensures .adds) ∙ c .before .enum-told .given .1)) (c .refuse .ensures)
+    (rw (c .before .before .before .gain-set .ensures .adds) at (c .before .enum-told .given .1))) (c .refuse .ensures)
 
 add-gain-set-2 : tie.Need-add-gain-set-2 Inv-loop μ-loop
 add-gain-set-2 c = omega (arith, c .before .before .before .before .before .before .before .before .before .before .before .before .before .before .before .before .before .pre .1 .whole)
@@ -108,7 +108,7 @@ returns-2 c =
     (input-here ws (g .args .n) (g .pre .1) (l .i) (l .at) (c .before .before .before .before .before .before .before .before .before .before .before .before .before .before .before .loop-test .taken) (l .inv .1))
     (output-here ws (g .args .n) (g .pre .1) (l .i) (l .at) (c .before .before .before .before .before .before .before .before .before .before .before .before .before .before .before .loop-test .taken) (l .inv .1))
     (activity-below ws (g .args .n) (g .pre .1) (l .i) (l .at) (c .before .before .before .before .before .before .before .before .before .before .before .before .before .before .before .loop-test .taken) (l .inv .1))
-    (c .before .before .before .before .before .before .before .before .input .given .0 .0) (sym (c .before .before .before .before .before .before .before .before .before .before .gain-set .ensures .adds) ∙ c .before .before .before .before .before .before .before .before .input .given .1) (sym (c .before .before .before .gain-set2 .ensures .adds) ∙ c .before .enum-told2 .given .1)) (c .refuse2 .ensures)
+    (c .before .before .before .before .before .before .before .before .input .given .0 .0) (rw (c .before .before .before .before .before .before .before .before .before .before .gain-set .ensures .adds) at (c .before .before .before .before .before .before .before .before .input .given .1)) (rw (c .before .before .before .gain-set2 .ensures .adds) at (c .before .enum-told2 .given .1))) (c .refuse2 .ensures)
 
 -- what the two puts add
 puts : (c : tie.After-known-told2 Inv-loop μ-loop)
@@ -117,7 +117,7 @@ puts c =
     let g = c .before .before .before .before .before .before .before .before .before .before .before .before .before .before .before .before .before .before .before .before .before .before in
     let l = c .before .before .before .before .before .before .before .before .before .before .before .before .before .before .before .before .loop in
     let ws = g .args .words .now in
-    (one-at-most (l .inputs) (l .input-len) (g .args .net .start) (getD ws (l .at) 0) (getD ws (l .at + 1) 0) _ (sym (c .before .before .before .before .before .before .before .before .before .before .gain-set .ensures .adds) ∙ c .before .before .before .before .before .before .before .before .input .given .1), one-at-most (l .outputs) (l .output-len) (g .args .net .end) (getD ws (l .at) 0) (getD ws (l .at + 2) 0) _ (sym (c .before .before .before .gain-set2 .ensures .adds) ∙ c .before .output .given .1))
+    (one-at-most (l .inputs) (l .input-len) (g .args .net .start) (getD ws (l .at) 0) (getD ws (l .at + 1) 0) _ (rw (c .before .before .before .before .before .before .before .before .before .before .gain-set .ensures .adds) at (c .before .before .before .before .before .before .before .before .input .given .1)), one-at-most (l .outputs) (l .output-len) (g .args .net .end) (getD ws (l .at) 0) (getD ws (l .at + 2) 0) _ (rw (c .before .before .before .gain-set2 .ensures .adds) at (c .before .output .given .1)))
 
 add-new : tie.Need-add-new Inv-loop μ-loop
 add-new c = omega (arith, puts c .0, puts c .1)
@@ -148,7 +148,7 @@ loop-again c =
           (output-here ws (g .args .n) (g .pre .1) (l .i) (l .at) (c .before .before .before .before .before .before .before .before .before .before .before .before .before .before .before .loop-test .taken) (l .inv .1))
           (activity-below ws (g .args .n) (g .pre .1) (l .i) (l .at) (c .before .before .before .before .before .before .before .before .before .before .before .before .before .before .before .loop-test .taken) (l .inv .1))
           _ _ _ _ _ _ (c .before .before .before .before .before .before .before .before .before .before .gain-set .ensures .masks-are) (c .before .before .before .before .before .before .before .before .before .before .gain-set .ensures .lengths-are) (c .before .before .before .gain-set2 .ensures .masks-are) (c .before .before .before .gain-set2 .ensures .lengths-are)
-          (sym (c .before .before .before .before .before .before .before .before .before .before .gain-set .ensures .adds) ∙ c .before .before .before .before .before .before .before .before .input .given .1) (sym (c .before .before .before .gain-set2 .ensures .adds) ∙ c .before .output .given .1),
+          (rw (c .before .before .before .before .before .before .before .before .before .before .gain-set .ensures .adds) at (c .before .before .before .before .before .before .before .before .input .given .1)) (rw (c .before .before .before .gain-set2 .ensures .adds) at (c .before .output .given .1)),
     )
 
 returns-3 : tie.Need-returns-3 Inv-loop μ-loop

@@ -1,6 +1,4 @@
 -- `gain_set` meets its contract, case by case of what `put_side` answers. Assumes nothing.
-use mathlib.Core.Path.{sym, ap, _∙_}
-use Rattle.net.specs.Put.{putMeans}
 use Rattle.sequences.specs.Inner.{gainedBy}
 use borrow.Author.Needs.{needs}
 use Rattle.sequences.proofs.gaining.gain_set.Statement.{statement}
@@ -22,19 +20,19 @@ returns : tie.Need-returns
 unfolding gainedBy
 returns c =
     let d = c .before .before .put-side .ensures in
-    record { adds = sym (ap gainedBy (sym (d .says) ∙ ap putMeans (c .enum-told .given .1))); masks-are = d .masks-are; lengths-are = d .lengths-are }
+    record { adds = rw (← d .says, c .enum-told .given .1); masks-are = d .masks-are; lengths-are = d .lengths-are }
 
 returns-2 : tie.Need-returns-2
 unfolding gainedBy
 returns-2 c =
     let d = c .before .before .put-side .ensures in
-    record { adds = sym (ap gainedBy (sym (d .says) ∙ ap putMeans (c .enum-told2 .given .1))); masks-are = d .masks-are; lengths-are = d .lengths-are }
+    record { adds = rw (← d .says, c .enum-told2 .given .1); masks-are = d .masks-are; lengths-are = d .lengths-are }
 
 returns-3 : tie.Need-returns-3
 unfolding gainedBy
 returns-3 c =
     let d = c .before .before .put-side .ensures in
-    record { adds = sym (ap gainedBy (sym (d .says) ∙ ap putMeans (c .enum-told3 .given .1))); masks-are = d .masks-are; lengths-are = d .lengths-are }
+    record { adds = rw (← d .says, c .enum-told3 .given .1); masks-are = d .masks-are; lengths-are = d .lengths-are }
 
 pub gain-set-spec : {M : Type 1} → statement M
 gain-set-spec =

@@ -37,7 +37,7 @@ returns-2 c =
     let g = c .before .before .before .before .before in
     let net = g .args .net in
     let ws = g .args .words .now in
-    judged-ends net (bindings ws) (sym (c .before .before .before .survey-net .ensures .lost-are) ∙ c .before .before .if1 .left) (shaped-same (net .start) (net .end) ws (g .args .n) (g .pre .1) ∙ sym (c .before .is-shaped .ensures) ∙ not-true (c .before .is-shaped .result) (c .if2 .taken))
+    judged-ends net (bindings ws) (rw (c .before .before .before .survey-net .ensures .lost-are) at (c .before .before .if1 .left)) (shaped-same (net .start) (net .end) ws (g .args .n) (g .pre .1) ∙ (rw (← c .before .is-shaped .ensures) (not-true _ (c .if2 .taken))))
 
 first-missing-requires : tie.Need-first-missing-requires
 first-missing-requires c κs = search needs
@@ -47,7 +47,7 @@ returns-3 c =
     let g = c .before .before .before .before .before .before .before in
     let net = g .args .net in
     let ws = g .args .words .now in
-    judged-missing net (bindings ws) (sym (c .before .before .before .before .before .survey-net .ensures .lost-are) ∙ c .before .before .before .before .if1 .left) (shaped-same (net .start) (net .end) ws (g .args .n) (g .pre .1) ∙ sym (c .before .before .before .is-shaped .ensures) ∙ not-false (c .before .before .before .is-shaped .result) (c .before .before .if2 .left)) (c .before .first-missing .result) (c .before .first-missing .ensures) (c .if3 .taken)
+    judged-missing net (bindings ws) (rw (c .before .before .before .before .before .survey-net .ensures .lost-are) at (c .before .before .before .before .if1 .left)) (shaped-same (net .start) (net .end) ws (g .args .n) (g .pre .1) ∙ (rw (← c .before .before .before .is-shaped .ensures) (not-false _ (c .before .before .if2 .left)))) (c .before .first-missing .result) (c .before .first-missing .ensures) (c .if3 .taken)
 
 run-judged-requires : tie.Need-run-judged-requires
 run-judged-requires c κs = search needs
@@ -57,7 +57,7 @@ returns-4 c =
     let g = c .before .before .before .before .before .before .before .before in
     let net = g .args .net in
     let ws = g .args .words .now in
-    judged-run net (bindings ws) (sym (c .before .before .before .before .before .before .survey-net .ensures .lost-are) ∙ c .before .before .before .before .before .if1 .left) (shaped-same (net .start) (net .end) ws (g .args .n) (g .pre .1) ∙ sym (c .before .before .before .before .is-shaped .ensures) ∙ not-false (c .before .before .before .before .is-shaped .result) (c .before .before .before .if2 .left)) (sym (c .before .before .first-missing .ensures) ∙ c .before .if3 .left) (c .run-judged .ensures)
+    judged-run net (bindings ws) (rw (c .before .before .before .before .before .before .survey-net .ensures .lost-are) at (c .before .before .before .before .before .if1 .left)) (shaped-same (net .start) (net .end) ws (g .args .n) (g .pre .1) ∙ (rw (← c .before .before .before .before .is-shaped .ensures) (not-false _ (c .before .before .before .if2 .left)))) (rw (c .before .before .first-missing .ensures) at (c .before .if3 .left)) (c .run-judged .ensures)
 
 pub judge-positions-spec : {M : Type 1} → statement M
 judge-positions-spec =

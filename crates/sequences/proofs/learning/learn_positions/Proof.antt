@@ -1,5 +1,5 @@
 -- `learn_positions` meets its contract: each return is a link of the chain of refusals. Assumes nothing.
-use mathlib.Core.Path.{sym, _∙_}
+use mathlib.Core.Path.{_∙_}
 use borrow.Author.Tests.{not-true, not-false}
 use Rattle.obligations.specs.Sequence.{bindings}
 use Rattle.sequences.proofs.WordLaws.{shaped-same}
@@ -18,7 +18,7 @@ returns : tie.Need-returns
 returns c =
     let g = c .before .before .before .before in
     let ws = g .args .words .now in
-    refused-ends (g .args .net) (bindings ws) (shaped-same (g .args .net .start) (g .args .net .end) ws (g .args .n) (g .pre .1) ∙ sym (c .before .before .is-shaped .ensures) ∙ not-true (c .before .before .is-shaped .result) (c .before .if1 .taken)) (c .refuse .ensures)
+    refused-ends (g .args .net) (bindings ws) (shaped-same (g .args .net .start) (g .args .net .end) ws (g .args .n) (g .pre .1) ∙ (rw (← c .before .before .is-shaped .ensures) (not-true _ (c .before .if1 .taken)))) (c .refuse .ensures)
 
 first-wrongly-empty-requires : tie.Need-first-wrongly-empty-requires
 first-wrongly-empty-requires c κs = search needs
@@ -30,7 +30,7 @@ returns-2 : tie.Need-returns-2
 returns-2 c =
     let g = c .before .before .before .before .before .before in
     let ws = g .args .words .now in
-    refused-empty (g .args .net) (bindings ws) (shaped-same (g .args .net .start) (g .args .net .end) ws (g .args .n) (g .pre .1) ∙ sym (c .before .before .before .before .is-shaped .ensures) ∙ not-false (c .before .before .before .before .is-shaped .result) (c .before .before .before .if1 .left)) (c .before .before .first-wrongly-empty .result) (c .before .before .first-wrongly-empty .ensures) (c .before .if2 .taken) (c .refuse2 .ensures)
+    refused-empty (g .args .net) (bindings ws) (shaped-same (g .args .net .start) (g .args .net .end) ws (g .args .n) (g .pre .1) ∙ (rw (← c .before .before .before .before .is-shaped .ensures) (not-false _ (c .before .before .before .if1 .left)))) (c .before .before .first-wrongly-empty .result) (c .before .before .first-wrongly-empty .ensures) (c .before .if2 .taken) (c .refuse2 .ensures)
 
 run-requires : tie.Need-run-requires
 run-requires c κs = search needs
@@ -57,19 +57,19 @@ returns-3 : tie.Need-returns-3
 returns-3 c =
     let g = c .before .before .before .before .before .before .before .before .before .before in
     let ws = g .args .words .now in
-    refused-impossible (g .args .net) (bindings ws) (shaped-same (g .args .net .start) (g .args .net .end) ws (g .args .n) (g .pre .1) ∙ sym (c .before .before .before .before .before .before .before .before .is-shaped .ensures) ∙ not-false (c .before .before .before .before .before .before .before .before .is-shaped .result) (c .before .before .before .before .before .before .before .if1 .left)) (sym (c .before .before .before .before .before .before .first-wrongly-empty .ensures) ∙ c .before .before .before .before .before .if2 .left) (c .before .before .ran .given .0 .0) (sym (c .before .before .before .before .run .ensures) ∙ c .before .before .ran .given .1) (c .refuse3 .ensures)
+    refused-impossible (g .args .net) (bindings ws) (shaped-same (g .args .net .start) (g .args .net .end) ws (g .args .n) (g .pre .1) ∙ (rw (← c .before .before .before .before .before .before .before .before .is-shaped .ensures) (not-false _ (c .before .before .before .before .before .before .before .if1 .left)))) (rw (c .before .before .before .before .before .before .first-wrongly-empty .ensures) at (c .before .before .before .before .before .if2 .left)) (c .before .before .ran .given .0 .0) (rw (c .before .before .before .before .run .ensures) at (c .before .before .ran .given .1)) (c .refuse3 .ensures)
 
 returns-4 : tie.Need-returns-4
 returns-4 c =
     let g = c .before .before .before .before .before .before .before .before .before in
     let ws = g .args .words .now in
-    refused-left (g .args .net) (bindings ws) (shaped-same (g .args .net .start) (g .args .net .end) ws (g .args .n) (g .pre .1) ∙ sym (c .before .before .before .before .before .before .before .is-shaped .ensures) ∙ not-false (c .before .before .before .before .before .before .before .is-shaped .result) (c .before .before .before .before .before .before .if1 .left)) (sym (c .before .before .before .before .before .first-wrongly-empty .ensures) ∙ c .before .before .before .before .if2 .left) (sym (c .before .before .before .run .ensures) ∙ c .before .enum-told .given .1) (c .refuse4 .ensures)
+    refused-left (g .args .net) (bindings ws) (shaped-same (g .args .net .start) (g .args .net .end) ws (g .args .n) (g .pre .1) ∙ (rw (← c .before .before .before .before .before .before .before .is-shaped .ensures) (not-false _ (c .before .before .before .before .before .before .if1 .left)))) (rw (c .before .before .before .before .before .first-wrongly-empty .ensures) at (c .before .before .before .before .if2 .left)) (rw (c .before .before .before .run .ensures) at (c .before .enum-told .given .1)) (c .refuse4 .ensures)
 
 returns-5 : tie.Need-returns-5
 returns-5 c =
     let g = c .before .before .before .before .before .before .before .before .before in
     let ws = g .args .words .now in
-    gained-or-full (g .args .net) (bindings ws) (shaped-same (g .args .net .start) (g .args .net .end) ws (g .args .n) (g .pre .1) ∙ sym (c .before .before .before .before .before .before .before .is-shaped .ensures) ∙ not-false (c .before .before .before .before .before .before .before .is-shaped .result) (c .before .before .before .before .before .before .if1 .left)) (sym (c .before .before .before .before .before .first-wrongly-empty .ensures) ∙ c .before .before .before .before .if2 .left) (c .before .enum-told2 .given .0 .0) (sym (c .before .before .before .run .ensures) ∙ c .before .enum-told2 .given .1) (c .gain .ensures)
+    gained-or-full (g .args .net) (bindings ws) (shaped-same (g .args .net .start) (g .args .net .end) ws (g .args .n) (g .pre .1) ∙ (rw (← c .before .before .before .before .before .before .before .is-shaped .ensures) (not-false _ (c .before .before .before .before .before .before .if1 .left)))) (rw (c .before .before .before .before .before .first-wrongly-empty .ensures) at (c .before .before .before .before .if2 .left)) (c .before .enum-told2 .given .0 .0) (rw (c .before .before .before .run .ensures) at (c .before .enum-told2 .given .1)) (c .gain .ensures)
 
 pub learn-positions-spec : {M : Type 1} → statement M
 learn-positions-spec =
