@@ -1,5 +1,4 @@
 -- `is_contained` meets its contract: the tests in the order of the definition. Assumes nothing.
-use mathlib.Core.Path.{sym, _∙_}
 use borrow.Author.Tests.{eq-eqb, ne-eqb, not-true, not-false}
 use Rattle.net.specs.Contained.{contained}
 use Rattle.net.specs.declared.Side.the-variants.{Input, Output}
@@ -23,8 +22,9 @@ sides-within-requires c κs =
 returns-3 : tie.Need-returns-3
 unfolding contained
 returns-3 c =
+    let s = c .before .sides-within in
     let j = c .before .before .before .before .before .before .before .before .before .before .before .before in
-    rw (eq-eqb _ _ (j .before .if1 .left), eq-eqb _ _ (j .if2 .left), sym (c .before .sides-within .ensures) ∙ not-true _ (c .if3 .taken))
+    rw (eq-eqb _ _ (j .before .if1 .left), eq-eqb _ _ (j .if2 .left), ← s .ensures, not-true (s .result) (c .if3 .taken))
 
 sides-within-requires-2 : tie.Need-sides-within-requires-2
 sides-within-requires-2 c κs =
@@ -35,8 +35,9 @@ returns-4 : tie.Need-returns-4
 unfolding contained
 returns-4 c =
     let i = c .before .before .before .before .before .before .before .before .before .before .before in
+    let s = i .before .sides-within in
     let j = i .before .before .before .before .before .before .before .before .before .before .before .before in
-    rw (eq-eqb _ _ (j .before .if1 .left), eq-eqb _ _ (j .if2 .left), sym (i .before .sides-within .ensures) ∙ not-false _ (i .if3 .left)) (c .sides-within2 .ensures)
+    rw (eq-eqb _ _ (j .before .if1 .left), eq-eqb _ _ (j .if2 .left), ← s .ensures, not-false (s .result) (i .if3 .left)) (c .sides-within2 .ensures)
 
 pub is-contained-spec : {M : Type 1} → statement M
 is-contained-spec =
