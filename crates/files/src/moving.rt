@@ -5,7 +5,7 @@
 use libc::EINTR;
 ghost use Rattle.io.specs.Counts.{Counts};
 
-// How often a call is made that signals interrupt before it moves a byte.
+// How often a call is made, if signals interrupt it each time.
 const TRIES: u32 = 1000;
 
 // How many bytes stand at the buffer's front, and whether nothing failed.
@@ -39,7 +39,7 @@ pub fn read_whole(fd: i32, buf: &mut [u8]) -> Reading
     }
 }
 
-// Writes all bytes. Says whether that was done.
+// Writes all bytes, and says whether that was done: a write that fails or takes nothing ends it.
 pub fn write_whole(fd: i32, bytes: &[u8]) -> bool {
     let mut done: usize = 0;
     while done < bytes.len() {
