@@ -14,7 +14,7 @@ ghost use lib.ListN.{length};
 // The calls that grow a net, those on the net in net.csv, and those on the text of a file.
 pub const PUT: u32 = 0;
 
-pub const LEARN: u32 = 1;
+const LEARN: u32 = 1;
 
 pub const CHECK: u32 = 2;
 
@@ -22,7 +22,7 @@ pub const JUDGE: u32 = 3;
 
 pub const READ_NET: u32 = 4;
 
-pub const READ_ROW: u32 = 5;
+const READ_ROW: u32 = 5;
 
 const CALLS: u32 = 6;
 

@@ -1,13 +1,14 @@
 // Decimal numbers, with no leading zero save 0.
 
 ghost use mathlib.Core.Path.{_≡_};
-ghost use Prim.Native.Nat.{_+_, _≤_};
+ghost use Prim.Native.Nat.{_+_, _*_, _≤_};
+ghost use lib.Dec.{leb};
 ghost use lib.ListN.{length};
 ghost use lib.Seq.{slice};
 ghost use Rattle.text.specs.Inner.{Wrote};
 ghost use Rattle.text.specs.Decimal.{parseNumber, parseWide, printNumber};
 
-// A number above this has more than 64 bits when a digit is added to it.
+// What the most that 64 bits hold, 18446744073709551615, is without its last digit.
 const TENTH: u64 = 1844674407370955161;
 
 // A number of 32 bits, as the columns of a table have. Refused: not a number, or above the limit.
@@ -34,8 +35,8 @@ pub fn read_number(s: &[u8], i: usize, e: usize, limit: u32) -> Number
     }
 }
 
-// The number in s[i..e]. Each value is compared with the limit before another digit is added, so that none wraps however
-// many digits there are.
+// The number in s[i..e]. A digit is added only where the value then has 64 bits, so that none wraps however many digits there
+// are.
 pub fn read_wide(s: &[u8], i: usize, e: usize, limit: u64) -> WideNumber
     requires { ⌜ (i ≤ e) × (e ≤ length (now s)) ⌝ }
     ensures { λ r. ⌜ r ≡ parseWide limit (slice i e (now (s .entry))) ⌝ }
@@ -59,19 +60,28 @@ pub fn read_wide(s: &[u8], i: usize, e: usize, limit: u64) -> WideNumber
             return WideNumber::Refused;
         }
         let d = (b - b'0') as u64;
-        if TENTH < v {
-            return WideNumber::Refused;
-        }
-        if limit < v * 10 {
-            return WideNumber::Refused;
-        }
-        if limit - v * 10 < d {
+        if !has_room(v, d) {
             return WideNumber::Refused;
         }
         v = v * 10 + d;
+        if limit < v {
+            return WideNumber::Refused;
+        }
         k += 1;
     }
     WideNumber::Value(v)
+}
+
+// Whether v with the digit d behind it has 64 bits. The limit of a table's column is far below, so that the compiler leaves
+// this test out there.
+fn has_room(v: u64, d: u64) -> bool
+    requires { ⌜ d ≤ 9 ⌝ }
+    ensures { λ r. ⌜ r ≡ leb (v * 10 + d) 18446744073709551615 ⌝ }
+{
+    if v == TENTH {
+        return d <= 5;
+    }
+    v < TENTH
 }
 
 // How many bytes n takes in decimal.
