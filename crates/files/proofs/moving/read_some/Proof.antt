@@ -1,6 +1,7 @@
--- `read_some` meets its contract. Assumes nothing.
+-- `read_some` is safe and ends: a read keeps the length of the buffer, and each turn is one of the tries that are left. Assumes
+-- nothing.
 use Prim.Native.Nat.{_-_}
-use mathlib.Core.Path.{_≡_, refl, sym, _∙_}
+use mathlib.Core.Path.{_≡_}
 use lib.ListN.{length}
 use borrow.Author.Needs.{needs}
 use Rattle.files.proofs.moving.read_some.Statement.{statement}

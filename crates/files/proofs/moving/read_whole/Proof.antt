@@ -1,4 +1,5 @@
--- `read_whole` meets its contract. Assumes nothing.
+-- `read_whole` meets its contract. The loop's invariant: what was read is within the buffer, which keeps its length; each turn reads at
+-- least one byte more. Assumes nothing.
 use Prim.Native.Nat.{_-_, _≤_}
 use mathlib.Core.Path.{_≡_, sym}
 use lib.ListN.{length}

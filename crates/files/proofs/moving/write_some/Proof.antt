@@ -1,4 +1,4 @@
--- `write_some` meets its contract. Assumes nothing.
+-- `write_some` is safe and ends: each turn is one of the tries that are left. Assumes nothing.
 use Prim.Native.Nat.{_-_}
 use borrow.Author.Needs.{needs}
 use Rattle.files.proofs.moving.write_some.Statement.{statement}

@@ -1,6 +1,5 @@
--- `write_whole` meets its contract. Assumes nothing.
+-- `write_whole` is safe and ends: what was written is within the bytes, and each turn writes at least one more. Assumes nothing.
 use Prim.Native.Nat.{_-_, _≤_}
-use mathlib.Core.Path.{_≡_}
 use lib.ListN.{length}
 use borrow.Author.Needs.{needs}
 use Rattle.files.proofs.moving.write_whole.Statement.{statement}

@@ -1,5 +1,5 @@
 -- `read_wide` meets its contract. The loop's invariant: what the field says is what the digits left say after the value so far. Assumes nothing.
-use Prim.Native.Nat.{_+_, _*_, _-_, _≤_, _<_}
+use Prim.Native.Nat.{_+_, _*_, _-_, _≤_}
 use mathlib.Core.Path.{_≡_, sym, _∙_}
 use mathlib.Core.Logic.{⊎-elim}
 use native.Mathlib.Omega.{arith}
