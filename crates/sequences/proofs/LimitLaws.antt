@@ -1,6 +1,6 @@
 -- Refusals 3 and 4: what each answer of the test of limits shows. The activities of a sequence are every third word, so the
 -- code's test on words is the definition's on bindings. Assumes nothing.
-use Prim.Native.Nat.{ℕ, _*_, _/_, _%_, _≤_, _<_}
+use Prim.Native.Nat.{ℕ, _*_, _%_, _≤_, _<_}
 use mathlib.Core.Path.{_≡_, refl, ap, subst, _∙_}
 use mathlib.Core.Bool.{Bool, true, false, _&&_, and-false}
 use mathlib.Core.List.{List}
@@ -8,6 +8,7 @@ use native.Mathlib.Omega.{arith}
 use borrow.Author.Tests.{eq-eqb, ne-eqb, le-leb, lt-leb}
 use lib.Dec.{eqb}
 use lib.ListN.{length, getD}
+use Rattle.obligations.specs.Limits.{positions}
 use Rattle.obligations.specs.Trace.{firstNoActivity}
 use Rattle.obligations.specs.Sequence.{bindings, at}
 use Rattle.obligations.proofs.TraceLaws.{no-activity-ext, activities-below}
@@ -26,19 +27,22 @@ pub words-uneven : (ws : List ℕ) → (length ws % 3 ≡ 0 → ⊥) → wordsWi
 unfolding wordsWithin
 words-uneven ws ne = rw (ne-eqb (length ws % 3) 0 ne)
 
-pub words-many : (ws : List ℕ) → 64 < length ws / 3 → wordsWithin ws ≡ false
+pub words-many : (ws : List ℕ) → 3 * positions < length ws → wordsWithin ws ≡ false
 unfolding wordsWithin
-words-many ws h = ap (λ (t : Bool). eqb (length ws % 3) 0 && t) (lt-leb (length ws) 192 (omega arith)) ∙ and-false (eqb (length ws % 3) 0)
+words-many ws h = ap (λ (t : Bool). eqb (length ws % 3) 0 && t) (lt-leb (length ws) (3 * positions) h) ∙ and-false (eqb (length ws % 3) 0)
 
-pub words-fit : (ws : List ℕ) → length ws % 3 ≡ 0 → length ws / 3 ≤ 64 → wordsWithin ws ≡ true
+pub words-fit : (ws : List ℕ) → length ws % 3 ≡ 0 → length ws ≤ 3 * positions → wordsWithin ws ≡ true
 unfolding wordsWithin
-words-fit ws e h = rw (eq-eqb (length ws % 3) 0 e, le-leb (length ws) 192 (omega arith))
+words-fit ws e h = rw (eq-eqb (length ws % 3) 0 e, le-leb (length ws) (3 * positions) h)
 
 pub limits-too-long : (ws : List ℕ) → wordsWithin ws ≡ false → LimitsOf ws (Beyond 3 0)
 unfolding withinLimits
 limits-too-long ws f = record { says = λ rest. rw f; positions-are = λ n e. beyond-not-within e }
 
-module _ (ws : List ℕ) (n : ℕ) (w : wordsWithin ws ≡ true) (l : length ws ≡ 3 * n) where
+module _ (ws : List ℕ) (n : ℕ) (few : n ≤ positions) (l : length ws ≡ 3 * n) where
+  within : wordsWithin ws ≡ true
+  within = words-fit ws (omega arith) (omega arith)
+
   -- the code's test on words is the definition's on bindings
   first-same : firstNoActivity (length (bindings ws)) (λ i. at (bindings ws) i .activity) ≡ firstNoActivity n (λ i. getD ws (3 * i) 0)
   first-same =
@@ -48,15 +52,15 @@ module _ (ws : List ℕ) (n : ℕ) (w : wordsWithin ws ≡ true) (l : length ws 
   pub limits-no-activity : (place : ℕ) → place ≡ firstNoActivity n (λ i. getD ws (3 * i) 0) → (place ≡ 0 → ⊥) → LimitsOf ws (Beyond 4 place)
   unfolding withinLimits
   limits-no-activity place e ne = record {
-    says = λ rest. rw (w, first-same, ← e, ne-eqb place 0 ne);
+    says = λ rest. rw (within, first-same, ← e, ne-eqb place 0 ne);
     positions-are = λ k q. beyond-not-within q;
   }
 
-  pub limits-within : n ≤ 64 → firstNoActivity n (λ i. getD ws (3 * i) 0) ≡ 0 → LimitsOf ws (Within n)
+  pub limits-within : firstNoActivity n (λ i. getD ws (3 * i) 0) ≡ 0 → LimitsOf ws (Within n)
   unfolding withinLimits
-  limits-within h e = record {
-    says = λ rest. rw (w, first-same, e);
-    positions-are = λ k q. let z : n ≡ k = cc in subst (WithinLimits ws) z (record { whole = l; few = h; activities-only = activities-below n (λ i. getD ws (3 * i) 0) e });
+  limits-within e = record {
+    says = λ rest. rw (within, first-same, e);
+    positions-are = λ k q. let z : n ≡ k = cc in subst (WithinLimits ws) z (record { whole = l; few = few; activities-only = activities-below n (λ i. getD ws (3 * i) 0) e });
   }
 
 -- ---- traces

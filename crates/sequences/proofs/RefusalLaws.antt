@@ -1,6 +1,6 @@
 -- Learn, follow and judge answer as their refusals are listed: each test of a call's chain fails exactly where its sentence holds,
 -- given that the tests before it have passed. Assumes nothing.
-use Prim.Native.Nat.{ℕ, _/_, _%_, _<_}
+use Prim.Native.Nat.{ℕ, _*_, _/_, _%_, _<_}
 use mathlib.Core.Path.{_≡_, refl, ap, subst, _∙_}
 use mathlib.Core.Bool.{true, false, _&&_}
 use mathlib.Core.List.{List, [], _∷_}
@@ -51,7 +51,7 @@ words-none ws e (inr l) = elim (decEq (length ws % 3) 0) [
 
 words-some : (ws : List ℕ) → wordsWithin ws ≡ false → (length ws % 3 ≡ 0 → ⊥) ⊎ (positions < length (bindings ws))
 words-some ws e = elim (decEq (length ws % 3) 0) [
-  | yes q ↦ ⊎-elim (λ l. inr (omega (arith, length-bindings ws (length ws / 3) (omega arith)))) (λ l. absurd (false-not-true e (words-fit ws q l))) (lt-or-le positions (length ws / 3))
+  | yes q ↦ ⊎-elim (λ l. inr (omega (arith, length-bindings ws (length ws / 3) (omega arith)))) (λ l. absurd (false-not-true e (words-fit ws q l))) (lt-or-le (3 * positions) (length ws))
   | no d ↦ inl d
 ]
 

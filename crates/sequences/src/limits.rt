@@ -3,7 +3,10 @@
 use crate::Limited;
 use net::refusal;
 use obligations::POSITIONS;
+use obligations::SEQUENCE_WORDS;
 use obligations::trace::first_no_activity;
+ghost use mathlib.Core.Path.{_≡_};
+ghost use Prim.Native.Nat.{_<_, _/_};
 ghost use Rattle.sequences.specs.Inner.{LimitsOf, TraceLimitsOf};
 
 // How many positions the words of a sequence have: a multiple of three words, at most 64 positions, activities below 32.
@@ -11,11 +14,11 @@ pub fn sequence_limits(words: &[u32]) -> Limited
     ensures { λ r. ⌜ LimitsOf (now (words .entry)) r ⌝ }
 {
     let size = words.len();
-    if size % 3 != 0 {
+    if SEQUENCE_WORDS < size {
         return Limited::Beyond(refusal::OUTSIDE_LIMITS, 0);
     }
-    let n = size / 3;
-    if POSITIONS < n {
+    let n = third(size);
+    if 3 * n != size {
         return Limited::Beyond(refusal::OUTSIDE_LIMITS, 0);
     }
     let place = first_no_activity(words, 3, n);
@@ -23,6 +26,16 @@ pub fn sequence_limits(words: &[u32]) -> Limited
         return Limited::Beyond(refusal::NO_ACTIVITY, place);
     }
     Limited::Within(n)
+}
+
+// A third of k, rounded down. For a browser a division stays one, and a loop that counts in threes may become one, so k is
+// multiplied by 171 / 512. That is above 1 / 3 by 1 / 1,536: below 512 less than a third in all, too little to reach the
+// next whole number.
+fn third(k: usize) -> usize
+    requires { ⌜ k < 512 ⌝ }
+    ensures { λ r. ⌜ r ≡ k / 3 ⌝ }
+{
+    k * 171 >> 9
 }
 
 // How many positions a trace has: at most 64, activities below 32.
