@@ -192,7 +192,8 @@ fn write(out: &mut [u32], at: usize, a: u32, x: u32, y: u32)
     requires { ⌜ (at < positions) × (3 * at + 3 ≤ length (now out)) ⌝ }
     ensures { λ _. ⌜ now (out .exit) ≡ set (set (set (now (out .entry)) (3 * at) a) (3 * at + 1) x) (3 * at + 2) y ⌝ }
 {
-    out[3 * at] = a;
-    out[3 * at + 1] = x;
-    out[3 * at + 2] = y;
+    let first = 3 * at;
+    out[first] = a;
+    out[first + 1] = x;
+    out[first + 2] = y;
 }
