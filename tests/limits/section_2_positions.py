@@ -2,7 +2,7 @@
 
 from bindings import loop, loop_trace
 from calls import OUT, disorder, put_new, read_f, same
-from limits import BUFFER_WORDS, MAX_64, NO_ACTIVITY, POSITIONS
+from limits import BUFFER_WORDS, LINE_NUMBERS, MAX_64, NO_ACTIVITY, POSITIONS
 from script import note, ok, refused, say
 
 
@@ -11,6 +11,7 @@ def write():
     positions_followed()
     positions_replayed()
     words_of_a_sequence()
+    every_number_of_words()
     buffer_of_replay()
     buffers_that_stay()
     budgets()
@@ -100,6 +101,29 @@ def words_of_a_sequence():
     one_less = loop(POSITIONS).removesuffix(" 0")
     for call in "learn", "judge":
         refused(3, 0, f"{call} 0 {one_more}", f"{call} 0 {one_less}")
+    same(0, 1)
+
+
+def every_number_of_words():
+    note(f"Every number of words up to {3 * POSITIONS + 3}: all are 0 but the activity at the last "
+         "position, which is none. With one or two words there 3; with three 4 at that position, "
+         f"and 3 if it is position {POSITIONS + 1}.")
+    for call in "judge", "learn":
+        for position in range(1, POSITIONS + 2):
+            before = f"{call} 0 {'0 0 0 ' * (position - 1)}{NO_ACTIVITY}"
+            refused(3, 0, before, f"{before} 0")
+            if position <= POSITIONS:
+                refused(4, position, f"{before} 0 0")
+            else:
+                refused(3, 0, f"{before} 0 0")
+    same(0, 1)
+
+    most = LINE_NUMBERS - 1
+    note(f"3: far more words, on both sides of 512, and up to {most}, the most that a line has room "
+         "for.")
+    for call in "judge", "learn":
+        for words in 510, 511, 512, 513, most - 2, most - 1, most:
+            refused(3, 0, f"{call} 0{' 0' * words}")
     same(0, 1)
 
 
