@@ -105,9 +105,9 @@ def words_of_a_sequence():
 
 
 def every_number_of_words():
-    note(f"Every number of words up to {3 * POSITIONS + 3}: all are 0 but the activity at the last "
-         "position, which is none. With one or two words there 3; with three 4 at that position, "
-         f"and 3 if it is position {POSITIONS + 1}.")
+    note(f"Every number of words from 1 to {3 * POSITIONS + 3}: all are 0 but the activity at the "
+         "last position, which is none. With one or two words there 3; with three 4 at that "
+         f"position, and 3 if it is position {POSITIONS + 1}.")
     for call in "judge", "learn":
         for position in range(1, POSITIONS + 2):
             before = f"{call} 0 {'0 0 0 ' * (position - 1)}{NO_ACTIVITY}"
