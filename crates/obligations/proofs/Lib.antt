@@ -10,6 +10,7 @@ pub mod PlaceLaws
 pub mod StateLaws
 pub mod CountLaws
 pub mod TotalLaws
+pub mod StepLaws
 pub mod PositionLaws
 pub mod TraceLaws
 pub mod SequenceLaws

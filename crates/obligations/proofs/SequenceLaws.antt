@@ -10,7 +10,7 @@ use native.Mathlib.Omega.{arith}
 use lib.ListN.{length, getD, take}
 use lib.Seq.{take-suc}
 use Rattle.obligations.specs.Tests.{firstFailing}
-use Rattle.obligations.specs.State.{nothing, possible, taken, added, after, allZero, State}
+use Rattle.obligations.specs.State.{nothing, possible, after, allZero, State}
 use Rattle.obligations.specs.Sequence.{Binding, bindings, words, at, run, ψ, Possible, NothingLeft, possibleAt, firstImpossible, completes}
 use Rattle.obligations.proofs.BoolLaws.{and-left, and-right, and-both, true-or-false, false-not-true}
 use Rattle.obligations.proofs.StateLaws.{after-state, nothing-state}
@@ -79,15 +79,14 @@ held-at (a ∷ x ∷ y ∷ w) (suc i) h =
 abbrev pub fired : List ℕ → Binding → List ℕ
 fired d b = after d (b .activity) (b .input) (b .output)
 
--- the step is the taking and then the adding
-pub after-is : (d : List ℕ) (a x y : ℕ) → after d a x y ≡ added (taken d a x) a y
-unfolding after
-after-is d a x y = refl
-
--- before the first position nothing is due
-pub ψ-none : ψ [] ≡ nothing
+-- no position leaves the state, and the first comes before the rest
+pub run-nil : (d : List ℕ) → run d [] ≡ d
 unfolding run
-ψ-none = refl
+run-nil d = refl
+
+pub run-cons : (d : List ℕ) (b : Binding) (s : List Binding) → run d (b ∷ s) ≡ run (fired d b) s
+unfolding run
+run-cons d b s = refl
 
 pub run-append : (d : List ℕ) (s t : List Binding) → run d (s ++ t) ≡ run (run d s) t
 unfolding run

@@ -3,7 +3,7 @@
 use Prim.Native.Nat.{ℕ, zero, suc, _+_, _-_, _*_, _≤_, _<_}
 use mathlib.Core.Path.{_≡_, refl, sym, ap, ap₂, _∙_}
 use mathlib.Core.Logic.{⊎-elim}
-use mathlib.Core.Bool.{Bool, true, false, _&&_, and-assoc}
+use mathlib.Core.Bool.{Bool, true, _&&_, and-assoc}
 use mathlib.Core.List.{List, [], _∷_}
 use native.Mathlib.Nat.{eq-zero-or-pos}
 use native.Mathlib.Numerals.{add-one}
@@ -14,7 +14,7 @@ use lib.Dec.{eqb, lit<}
 use lib.ListN.{length, getD, take, drop, replicate, getD-replicate, List·getD-eq-default}
 use lib.Seq.{ext-getD, getD-take, getD-drop, drop-drop}
 use Rattle.obligations.specs.Sets.{single}
-use Rattle.obligations.specs.State.{nothing, inputs, outputs, allDue, lowered, raised, possible, taken, added, after, stepped, covers, unadded, untaken, before, allZero, State}
+use Rattle.obligations.specs.State.{nothing, inputs, outputs, allDue, lowered, raised, possible, taken, added, after, covers, unadded, untaken, before, allZero, State}
 use Rattle.obligations.proofs.BoolLaws.{and-left, and-right, and-both, same-test}
 use Rattle.obligations.proofs.SetLaws.{lt-or-le}
 use Rattle.obligations.proofs.PlaceLaws.{places-none, places-single, occ, lowered-at, raised-at, length-lowered, length-raised, places-once, places-found, due-at, due-all}
@@ -91,15 +91,6 @@ pub after-added : (d : List ℕ) (a x y : ℕ) → after d a x y ≡ added (take
 unfolding after
 after-added d a x y = refl
 
--- a step by its answer
-pub stepped-possible : {r : Bool} (d : List ℕ) (a x y : ℕ) → r ≡ true → stepped r d a x y ≡ after d a x y
-unfolding stepped
-stepped-possible d a x y e = rw e
-
-pub stepped-not : {r : Bool} (d : List ℕ) (a x y : ℕ) → r ≡ false → stepped r d a x y ≡ d
-unfolding stepped
-stepped-not d a x y e = rw e
-
 -- undoing a possible step gives the state before it
 pub before-after : (d : List ℕ) (a x y : ℕ) → possible d a x ≡ true → before (after d a x y) a x y ≡ d
 unfolding before after
@@ -163,11 +154,6 @@ added-state n d a y s = record {
 pub after-state : (n : ℕ) (d : List ℕ) (a x y : ℕ) → State n d → State (n + 1) (after d a x y)
 unfolding after
 after-state n d a x y s = added-state n (taken d a x) a y (taken-state n d a x s)
-
-pub stepped-state : (r : Bool) (n : ℕ) (d : List ℕ) (a x y : ℕ) → State n d → State (n + 1) (stepped r d a x y)
-unfolding stepped
-stepped-state true n d a x y s = after-state n d a x y s
-stepped-state false n d a x y s = state-le (omega arith) s
 
 pub unadded-state : (n : ℕ) (d : List ℕ) (a y : ℕ) → State n d → State n (unadded d a y)
 unadded-state n d a y s = record { long = length-unadded d a y ∙ s .long; small = λ j. omega (arith, unadded-at d a y j, s .small j) }

@@ -1,9 +1,10 @@
 -- The statements of specs/Statements.antt, each by its law. Assumes nothing.
-use Rattle.obligations.specs.Statements.{StepIsψ, PossibleIsEvery, UndoUndoes, StepTotal, TotalZero, AllZeroIsEvery, MembersAreListed, SizeIsNumber, NoneImpossible, FirstIsImpossible, CompletesIsBoth, CountsStaySmall, ShapedIsFacts, WordsAndBack}
+use Rattle.obligations.specs.Statements.{StepIsψ, PossibleIsEvery, UndoUndoes, StepTotal, TotalZero, StepReports, AllZeroIsEvery, MembersAreListed, SizeIsNumber, NoneImpossible, FirstIsImpossible, CompletesIsBoth, CountsStaySmall, ShapedIsFacts, WordsAndBack}
 use Rattle.obligations.proofs.MemberLaws.{members-are, size-number}
 use Rattle.obligations.proofs.StateLaws.{before-after}
 use Rattle.obligations.proofs.CountLaws.{after-count, possible-count, count-possible, zero-count, count-zero}
 use Rattle.obligations.proofs.TotalLaws.{after-total, total-zero, zero-total}
+use Rattle.obligations.proofs.StepLaws.{step-said}
 use Rattle.obligations.proofs.TraceLaws.{shaped-facts, facts-shaped}
 use Rattle.obligations.proofs.SequenceLaws.{bindings-words, words-bindings, none-impossible, first-impossible, completes-both, ψ-state}
 
@@ -21,6 +22,9 @@ step-total = after-total
 
 pub total-is-zero : TotalZero
 total-is-zero d = (total-zero d, zero-total d)
+
+pub step-reports : StepReports
+step-reports = step-said
 
 pub all-zero-is-every : AllZeroIsEvery
 all-zero-is-every d long = (zero-count d, count-zero d long)

@@ -1,12 +1,14 @@
 -- The state of pending obligations and the step of a binding (01, "Obligations and the step").
 use Prim.Native.Nat.{ℕ, _+_, _-_, _*_, _≤_}
 use mathlib.Core.Path.{_≡_}
-use mathlib.Core.Bool.{Bool, true, false, _&&_}
+use mathlib.Core.Bool.{Bool, true, cond, _&&_}
 use mathlib.Core.List.{List, [], _∷_, map}
 use lib.Dec.{leb, eqb}
 use lib.ListN.{getD, set, length, replicate}
 use Rattle.obligations.specs.Limits.{activities, pairs}
 use Rattle.obligations.specs.Sets.{members}
+use Rattle.obligations.specs.declared.state.Stepped.{Stepped}
+use Rattle.obligations.specs.declared.state.Stepped.the-variants.{Total, Impossible}
 
 -- how often q is still due because of p; a state is the list of these counts, the 32 of each q together
 unfoldable pub count : List ℕ → ℕ → ℕ → ℕ
@@ -59,11 +61,6 @@ added d a y = raised d (outputs a y)
 unfoldable pub after : List ℕ → ℕ → ℕ → ℕ → List ℕ
 after d a x y = added (taken d a x) a y
 
--- what a step leaves: the state after a possible binding, the same state after any other
-unfoldable pub stepped : Bool → List ℕ → ℕ → ℕ → ℕ → List ℕ
-stepped true d a x y = after d a x y
-stepped false d a x y = d
-
 -- every (a, q) with q in y has a count of at least 1, as after a step that added it
 unfoldable pub covers : List ℕ → ℕ → ℕ → Bool
 covers d a y = allDue d (outputs a y)
@@ -87,6 +84,15 @@ allZero (n ∷ ns) = eqb n 0 && allZero ns
 unfoldable pub total : List ℕ → ℕ
 total [] = 0
 total (n ∷ ns) = n + total ns
+
+-- what the step of the binding (a, x, y) reports: the total of all counts after it, or that the binding isn't possible; then
+-- nothing is said of a total
+unfoldable pub stepSays : List ℕ → ℕ → ℕ → ℕ → Stepped
+stepSays d a x y = cond (possible d a x) (Total (total (after d a x y))) Impossible
+
+-- the state that it leaves: the one after a possible binding, the same one after any other
+unfoldable pub stepGives : List ℕ → ℕ → ℕ → ℕ → List ℕ
+stepGives d a x y = cond (possible d a x) (after d a x y) d
 
 -- d is a state in which no count is above n
 pub record State (n : ℕ) (d : List ℕ) : Type 0 where

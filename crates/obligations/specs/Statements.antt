@@ -10,7 +10,8 @@ use lib.ListN.{length, take}
 use Rattle.obligations.specs.Limits.{activities, pairs}
 use Rattle.obligations.specs.Tests.{indicator, number}
 use Rattle.obligations.specs.Sets.{member, members, size}
-use Rattle.obligations.specs.State.{count, nothing, possible, after, before, allZero, total, State}
+use Rattle.obligations.specs.State.{count, nothing, possible, after, before, allZero, total, stepSays, stepGives, State}
+use Rattle.obligations.specs.declared.state.Stepped.the-variants.{Total, Impossible}
 use Rattle.obligations.specs.Trace.{shaped, Shaped}
 use Rattle.obligations.specs.Sequence.{Binding, bindings, words, at, ψ, Possible, NothingLeft, firstImpossible, completes}
 
@@ -36,6 +37,17 @@ StepTotal =
 
 abbrev pub TotalZero : Type 0
 TotalZero = (d : List ℕ) → (total d ≡ 0) ↔ (allZero d ≡ true)
+
+-- what a step reports: the total of all counts after it exactly if the binding is possible, and else that it isn't, with the
+-- state as it was
+pub record StepSaid (d : List ℕ) (b : Binding) : Type 0 where
+  pub total-exactly : (k : ℕ) → (stepSays d (b .activity) (b .input) (b .output) ≡ Total k) ↔ (Possible d b × (total (after d (b .activity) (b .input) (b .output)) ≡ k))
+  pub impossible-exactly : (stepSays d (b .activity) (b .input) (b .output) ≡ Impossible) ↔ (Possible d b → ⊥)
+  pub changed-if : Possible d b → stepGives d (b .activity) (b .input) (b .output) ≡ after d (b .activity) (b .input) (b .output)
+  pub same-if-not : (Possible d b → ⊥) → stepGives d (b .activity) (b .input) (b .output) ≡ d
+
+abbrev pub StepReports : Type 0
+StepReports = (d : List ℕ) (b : Binding) → StepSaid d b
 
 -- every count of a state is zero exactly if nothing is left in it
 abbrev pub AllZeroIsEvery : Type 0

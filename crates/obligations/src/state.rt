@@ -2,21 +2,31 @@
 // the caller lends and that is changed in place. The counts of one q stand together, at q * 32 + p.
 //
 // These functions are called by the layers above and by nobody else. Their `requires` are those that a caller has at
-// hand: the activity is one, and no count is above 254, since a count is at most the number of positions so far.
+// hand: the activity is one, no count is above 254, since a count is at most the number of positions so far, and the total
+// of counts is what the step before reported.
 
 use crate::ACTIVITIES;
 use crate::PAIRS;
+use crate::sets::size;
 ghost use mathlib.Core.Path.{_≡_};
 ghost use mathlib.Core.Bool.{true};
 ghost use Prim.Native.Nat.{_≤_, _<_, _+_, _-_, _*_};
 ghost use lib.ListN.{length, take, drop};
 ghost use Rattle.obligations.specs.Limits.{activities, pairs};
-ghost use Rattle.obligations.specs.State.{placesOf, allDue, lowered, raised, possible, taken, added, stepped, covers, unadded, untaken, before, allZero, State};
+ghost use Rattle.obligations.specs.State.{placesOf, allDue, lowered, raised, possible, taken, added, covers, unadded, untaken, before, allZero, total, State, stepSays, stepGives};
 
 // The test for an all-zero state goes by parts of the counts: how many there are, and how long each is.
 const PARTS: usize = 4;
 
 const PART: usize = PAIRS / PARTS;
+
+// What a step reports.
+pub enum Stepped {
+    // The total of counts after it.
+    Total(u32),
+    // The binding isn't possible, and nothing has changed.
+    Impossible,
+}
 
 // Whether the binding of a with the input set x is possible: every (p, a) with p in x has a count of at least 1.
 pub fn is_possible(due: &[u8; PAIRS], a: u32, x: u32) -> bool
@@ -62,20 +72,21 @@ pub fn undo_add(due: &mut [u8; PAIRS], a: u32, y: u32)
     lower(due, a, ACTIVITIES, y);
 }
 
-// Takes the step of the binding (a, x, y) and answers true, if it is possible; else changes nothing and answers false.
-// What y adds can't serve x of the same step: x is tested and taken first.
-pub fn step(due: &mut [u8; PAIRS], a: u32, x: u32, y: u32) -> bool
+// Takes the step of the binding (a, x, y) and reports the total of counts after it, if the binding is possible; else changes
+// nothing and says so. What y adds can't serve x of the same step: x is tested and taken first. The total is carried, not
+// summed: `pending` is the one before the step.
+pub fn step(due: &mut [u8; PAIRS], pending: u32, a: u32, x: u32, y: u32) -> Stepped
     requires { ⌜ a < activities ⌝ }
     requires { ⌜ State 254 (now due) ⌝ }
-    ensures { λ r. ⌜ (r ≡ possible (now (due .entry)) a x) × (now (due .exit) ≡ stepped r (now (due .entry)) a x y) ⌝ }
+    requires { ⌜ pending ≡ total (now due) ⌝ }
+    ensures { λ r. ⌜ (r ≡ stepSays (now (due .entry)) a x y) × (now (due .exit) ≡ stepGives (now (due .entry)) a x y) ⌝ }
 {
-    if is_possible(due, a, x) {
-        take(due, a, x);
-        add(due, a, y);
-        true
-    } else {
-        false
+    if !is_possible(due, a, x) {
+        return Stepped::Impossible;
     }
+    take(due, a, x);
+    add(due, a, y);
+    Stepped::Total(pending - size(x) + size(y))
 }
 
 // Brings back the state before a possible step of the binding (a, x, y).

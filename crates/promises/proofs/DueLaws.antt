@@ -18,7 +18,7 @@ use Rattle.obligations.specs.Sequence.{Binding, at, ψ}
 use Rattle.obligations.proofs.BoolLaws.{and-left, and-right, and-both, true-or-false}
 use Rattle.obligations.proofs.StateLaws.{nothing-zero}
 use Rattle.obligations.proofs.CountLaws.{after-count, zero-count}
-use Rattle.obligations.proofs.SequenceLaws.{ψ-none, ψ-next, ψ-state}
+use Rattle.obligations.proofs.SequenceLaws.{run-nil, ψ-next, ψ-state}
 
 -- a position of activity p whose Y has q, and one of activity q whose X has p
 pub record Adds (s : List Binding) (p q i : ℕ) : Type 0 where
@@ -73,7 +73,7 @@ module _ (s : List Binding) (below : (i : ℕ) → i < length s → at s i .acti
   -- what is due after i positions was added by one of them
   due-from : (i : ℕ) → i ≤ length s → 1 ≤ due i → (j : ℕ) × (j < i) × Adds s p q j
   unfolding due
-  due-from zero h d = absurd (omega (arith, ap (λ (e : List ℕ). count e p q) ψ-none, zero-count nothing nothing-zero p q hp hq))
+  due-from zero h d = absurd (omega (arith, ap (λ (e : List ℕ). count e p q) (run-nil nothing), zero-count nothing nothing-zero p q hp hq))
   due-from (suc i) h d =
       ⊎-elim (λ e. (i, omega arith, does-add i e)) (λ e. let w = due-from i (omega arith) (omega (arith, was-due i (omega arith) e)) in (w .0, omega (arith, w .1), w .2))
       (true-or-false (adds i))

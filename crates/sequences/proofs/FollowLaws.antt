@@ -15,8 +15,8 @@ use Rattle.obligations.specs.State.{nothing, added, after}
 use Rattle.obligations.specs.Sequence.{Binding, words, at, completes}
 use Rattle.obligations.proofs.BoolLaws.{and-both}
 use Rattle.obligations.proofs.SetLaws.{single-lt, lt-or-le}
-use Rattle.obligations.proofs.StateLaws.{possible-none, taken-none, added-none, handed-possible, handed-taken, nothing-zero}
-use Rattle.obligations.proofs.SequenceLaws.{bindings-words, words-nil, words-cons, length-words, held-at, after-is, completes-nil, completes-cons}
+use Rattle.obligations.proofs.StateLaws.{after-added, possible-none, taken-none, added-none, handed-possible, handed-taken, nothing-zero}
+use Rattle.obligations.proofs.SequenceLaws.{bindings-words, words-nil, words-cons, length-words, held-at, completes-nil, completes-cons}
 use Rattle.obligations.specs.Trace.{shaped}
 use Rattle.obligations.proofs.TraceLaws.{shaped-ext}
 use Rattle.net.specs.Refusals.{accepted, full-side}
@@ -100,14 +100,14 @@ Below (a ∷ t) = (a < 32) × Below t
 
 handed : (a b : ℕ) (t : List ℕ) → a < 32 → b < 32 → Below t → completes (added nothing a (single b)) (followedFrom (single a) (b ∷ t)) ≡ true
 unfolding followedFrom Below
-handed a b [] ha hb w = rw (completes-cons, completes-nil, after-is) (and-both (handed-possible nothing a b refl ha hb) (rw (handed-taken nothing a b ha hb, added-none nothing b) nothing-zero))
-handed a b (c ∷ t) ha hb w = rw (completes-cons, after-is) (and-both (handed-possible nothing a b refl ha hb) (rw (handed-taken nothing a b ha hb) (handed b c t hb (w .0) (w .1))))
+handed a b [] ha hb w = rw (completes-cons, completes-nil, after-added) (and-both (handed-possible nothing a b refl ha hb) (rw (handed-taken nothing a b ha hb, added-none nothing b) nothing-zero))
+handed a b (c ∷ t) ha hb w = rw (completes-cons, after-added) (and-both (handed-possible nothing a b refl ha hb) (rw (handed-taken nothing a b ha hb) (handed b c t hb (w .0) (w .1))))
 
 from-first : (t : List ℕ) → Below t → 0 < length t → completes nothing (followedFrom 0 t) ≡ true
 unfolding followedFrom Below
 from-first [] w h = absurd (omega arith)
-from-first (a ∷ []) w h = rw (completes-cons, completes-nil, after-is) (and-both (possible-none nothing a) (rw (taken-none nothing a, added-none nothing a) nothing-zero))
-from-first (a ∷ b ∷ t) w h = rw (completes-cons, after-is) (and-both (possible-none nothing a) (rw (taken-none nothing a) (handed a b t (w .0) (w .1 .0) (w .1 .1))))
+from-first (a ∷ []) w h = rw (completes-cons, completes-nil, after-added) (and-both (possible-none nothing a) (rw (taken-none nothing a, added-none nothing a) nothing-zero))
+from-first (a ∷ b ∷ t) w h = rw (completes-cons, after-added) (and-both (possible-none nothing a) (rw (taken-none nothing a) (handed a b t (w .0) (w .1 .0) (w .1 .1))))
 
 below-all : (t : List ℕ) → ((i : ℕ) → i < length t → getD t i 0 < 32) → Below t
 unfolding Below

@@ -1,6 +1,6 @@
 -- The loop that runs a sequence: what holds after i positions, one position more, and its three ways out. The state is ψ of
--- the positions passed, so the step's laws carry the total along. Assumes nothing.
-use Prim.Native.Nat.{ℕ, suc, _+_, _-_, _*_, _≤_, _<_, max}
+-- the positions passed, and the total is what the last step reported of it. Assumes nothing.
+use Prim.Native.Nat.{ℕ, suc, _+_, _*_, _≤_, _<_, max}
 use mathlib.Core.Path.{_≡_, refl, sym, ap, subst, _∙_}
 use mathlib.Core.Bool.{Bool, true, false, cond}
 use mathlib.Core.List.{List}
@@ -12,17 +12,17 @@ use lib.Dec.{eqb}
 use lib.ListN.{length, getD, take, drop, length-take}
 use lib.Seq.{take-all, drop-cons}
 use lib.ListN.{drop-of-length-le}
-use Rattle.obligations.specs.Sets.{size}
-use Rattle.obligations.specs.State.{nothing, possible, after, allZero, total, State}
-use Rattle.obligations.specs.Sequence.{Binding, bindings, at, run, ψ, possibleAt, firstImpossible}
-use Rattle.obligations.proofs.MemberLaws.{size-le}
+use Rattle.obligations.specs.State.{nothing, possible, after, allZero, total, State, stepSays, stepGives}
+use Rattle.obligations.specs.Sequence.{Binding, bindings, at, ψ, possibleAt, firstImpossible}
+use Rattle.obligations.specs.declared.state.Stepped.the-variants as step
 use Rattle.obligations.proofs.StateLaws.{nothing-zero, state-le}
-use Rattle.obligations.proofs.TotalLaws.{after-total, taken-total, total-zero, zero-total}
+use Rattle.obligations.proofs.TotalLaws.{total-zero, zero-total}
+use Rattle.obligations.proofs.StepLaws.{gives-possible, total-said, impossible-said}
 use Rattle.obligations.proofs.PositionLaws.{AllPass}
 use Rattle.obligations.proofs.TraceLaws.{pass-more}
-use Rattle.obligations.proofs.SequenceLaws.{fired, ψ-none, ψ-next, ψ-state, possible-test, pass-impossible, fails-impossible}
+use Rattle.obligations.proofs.SequenceLaws.{fired, run-nil, ψ-next, ψ-state, possible-test, pass-impossible, fails-impossible}
 use Rattle.obligations.proofs.BoolLaws.{true-or-false}
-use Rattle.sequences.proofs.WordLaws.{positions-many, activity-here, input-here, output-here, activity-below}
+use Rattle.sequences.proofs.WordLaws.{positions-many, activity-here, input-here, output-here}
 use Rattle.sequences.specs.Run.{largestTotal, ran}
 use Rattle.sequences.specs.Inner.{WithinLimits}
 use Rattle.sequences.specs.declared.Ran.the-variants.{Impossible, LeftOver, Settled}
@@ -85,7 +85,6 @@ pub record Running (ws : List ℕ) (n i place : ℕ) (due : List ℕ) (pending p
   pub placed : place ≡ 3 * i
   pub state : due ≡ ψ (take i (bindings ws))
   pub counted : pending ≡ total due
-  pub bounded : pending ≤ 32 * i
   pub each-possible : AllPass i (possibleAt (bindings ws))
   pub largest : max peak (largestTotal due (drop i (bindings ws))) ≡ largestTotal nothing (bindings ws)
 
@@ -97,9 +96,8 @@ module _ (ws : List ℕ) (n : ℕ) (p : WithinLimits ws n) where
   running-start = record {
     inside = omega arith;
     placed = refl;
-    state = sym ψ-none;
+    state = sym (run-nil nothing);
     counted = sym (zero-total nothing nothing-zero);
-    bounded = omega arith;
     each-possible = λ i l. absurd (omega arith);
     largest = omega arith;
   }
@@ -139,40 +137,36 @@ module _ (ws : List ℕ) (n : ℕ) (p : WithinLimits ws n) where
       output : getD ws (place + 2) 0 ≡ at (bindings ws) i .output
       output = output-here ws n p i place h (r .placed)
 
-      below : getD ws place 0 < 32
-      below = activity-below ws n p i place h (r .placed)
-
       possible-here : possibleAt (bindings ws) i ≡ possible due (getD ws place 0) (getD ws (place + 1) 0)
       possible-here = possible-test (bindings ws) i ∙ rw (r .state, activity, input)
 
-      pub running-impossible : possible due (getD ws place 0) (getD ws (place + 1) 0) ≡ false → ran (bindings ws) ≡ Impossible (i + 1)
-      running-impossible f =
+      pub running-impossible : stepSays due (getD ws place 0) (getD ws (place + 1) 0) (getD ws (place + 2) 0) ≡ step.Impossible → ran (bindings ws) ≡ Impossible (i + 1)
+      running-impossible e =
+          let f = impossible-said due (getD ws place 0) (getD ws (place + 1) 0) (getD ws (place + 2) 0) e in
           ran-impossible (bindings ws) i
           (fails-impossible (bindings ws) i (record { inside = omega (arith, many); before = r .each-possible; fails = possible-here ∙ f }))
 
-      pub input-counted : possible due (getD ws place 0) (getD ws (place + 1) 0) ≡ true → size (getD ws (place + 1) 0) ≤ pending
-      input-counted t = omega (arith, r .counted, taken-total due (getD ws place 0) (getD ws (place + 1) 0) (running-state .long) below t)
-
       -- one position more
       pub running-next : (due′ : List ℕ) (pending′ peak′ : ℕ)
-          → possible due (getD ws place 0) (getD ws (place + 1) 0) ≡ true
-          → due′ ≡ after due (getD ws place 0) (getD ws (place + 1) 0) (getD ws (place + 2) 0)
-          → pending′ ≡ (pending - size (getD ws (place + 1) 0)) + size (getD ws (place + 2) 0)
+          → stepSays due (getD ws place 0) (getD ws (place + 1) 0) (getD ws (place + 2) 0) ≡ step.Total pending′
+          → due′ ≡ stepGives due (getD ws place 0) (getD ws (place + 1) 0) (getD ws (place + 2) 0)
           → peak′ ≡ max peak pending′
           → Running ws n (i + 1) (place + 3) due′ pending′ peak′
-      running-next due′ pending′ peak′ t d q m =
+      running-next due′ pending′ peak′ e g m =
           let a = getD ws place 0 in
           let x = getD ws (place + 1) 0 in
           let y = getD ws (place + 2) 0 in
+          let said = total-said due a x y pending′ e in
+          let t = said .0 in
+          let d : due′ ≡ after due a x y = g ∙ gives-possible due a x y t in
           let next : due′ ≡ fired (ψ (take i (bindings ws))) (at (bindings ws) i) = d ∙ same-fired in
           let here : due′ ≡ fired due (at (bindings ws) i) = next ∙ ap (λ (l : List ℕ). fired l (at (bindings ws) i)) (sym (r .state)) in
-          let count : pending′ ≡ total due′ = omega (arith, r .counted, input-counted t, after-total due a x y (running-state .long) below t, ap total d) in
+          let count : pending′ ≡ total due′ = sym (said .1) ∙ ap total (sym d) in
           record {
             inside = omega arith;
             placed = omega (arith, r .placed);
             state = next ∙ sym (ψ-next (bindings ws) i (omega (arith, many)));
             counted = count;
-            bounded = omega (arith, r .bounded, size-le y);
             each-possible = pass-more (possibleAt (bindings ws)) i (r .each-possible) (possible-here ∙ t);
             largest =
                 omega (arith, r .largest, largest-step due (bindings ws) i (omega (arith, many)), ap (λ (l : List ℕ). total l) here, ap (λ (l : List ℕ). largestTotal l (drop (i + 1) (bindings ws))) here);

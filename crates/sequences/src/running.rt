@@ -2,7 +2,7 @@
 
 use crate::Ran;
 use obligations::PAIRS;
-use obligations::sets::size;
+use obligations::state::Stepped;
 use obligations::state::step;
 ghost use mathlib.Core.Path.{_≡_};
 ghost use Prim.Native.Nat.{max};
@@ -10,8 +10,8 @@ ghost use Rattle.obligations.specs.Sequence.{bindings};
 ghost use Rattle.sequences.specs.Run.{ran};
 ghost use Rattle.sequences.specs.Inner.{WithinLimits};
 
-// Takes the n bindings one after another, up to the first that isn't possible. The total of counts is carried along, so
-// that at the end the state needs no scan.
+// Takes the n bindings one after another, up to the first that isn't possible. Each step reports the total of counts after
+// it: the largest is the peak, and the last tells whether anything is left, so that the state needs no scan.
 pub fn run(words: &[u32], n: usize) -> Ran
     requires { ⌜ WithinLimits (now words) n ⌝ }
     ensures { λ r. ⌜ r ≡ ran (bindings (now (words .entry))) ⌝ }
@@ -22,12 +22,11 @@ pub fn run(words: &[u32], n: usize) -> Ran
     let mut i: usize = 0;
     let mut at: usize = 0;
     while i < n {
-        let x = words[at + 1];
-        let y = words[at + 2];
-        if !step(&mut due, words[at], x, y) {
+        let stepped = step(&mut due, total, words[at], words[at + 1], words[at + 2]);
+        let Stepped::Total(after) = stepped else {
             return Ran::Impossible((i + 1) as u32);
-        }
-        total = total - size(x) + size(y);
+        };
+        total = after;
         peak = larger(peak, total);
         i += 1;
         at += 3;

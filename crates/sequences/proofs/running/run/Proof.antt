@@ -1,13 +1,8 @@
 -- `run` meets its contract: the loop's invariant is `Running`, and each way out is one of its laws. Assumes nothing.
-use Prim.Native.Nat.{_+_, _-_}
-use mathlib.Core.Path.{sym, _∙_}
-use native.Mathlib.Omega.{arith}
+use Prim.Native.Nat.{_-_}
+use mathlib.Core.Path.{sym}
 use borrow.Author.Needs.{needs}
-use borrow.Author.Tests.{not-true, not-false}
-use lib.ListN.{getD}
-use Rattle.obligations.proofs.MemberLaws.{size-le}
-use Rattle.obligations.proofs.StateLaws.{stepped-possible}
-use Rattle.sequences.proofs.RunLaws.{Running, running-start, running-state, running-settled, running-left, running-impossible, running-next, input-counted}
+use Rattle.sequences.proofs.RunLaws.{Running, running-start, running-state, running-settled, running-left, running-impossible, running-next}
 use Rattle.sequences.proofs.WordLaws.{activity-below}
 use Rattle.sequences.proofs.running.run.Statement.{statement}
 use Rattle.sequences.proofs.running.run.Tie as tie
@@ -21,67 +16,55 @@ abbrev μ-loop : tie.MeasureT-loop
 loop-holds : tie.Need-loop-holds Inv-loop μ-loop
 loop-holds c = running-start (c .before .args .words .now) (c .before .args .n) (c .before .pre)
 
-add-x : tie.Need-add-x Inv-loop μ-loop
-add-x c = search needs
-
-mul-x : tie.Need-mul-x Inv-loop μ-loop
-mul-x c = search needs
-
-shared-slice-read-x : tie.Need-shared-slice-read-x Inv-loop μ-loop
-shared-slice-read-x c = search needs
-
-add-y : tie.Need-add-y Inv-loop μ-loop
-add-y c = search needs
-
-mul-y : tie.Need-mul-y Inv-loop μ-loop
-mul-y c = search needs
-
-shared-slice-read-y : tie.Need-shared-slice-read-y Inv-loop μ-loop
-shared-slice-read-y c = search needs
-
 mul-step : tie.Need-mul-step Inv-loop μ-loop
 mul-step c = search needs
 
 shared-slice-read-step : tie.Need-shared-slice-read-step Inv-loop μ-loop
 shared-slice-read-step c = search needs
 
+add-step : tie.Need-add-step Inv-loop μ-loop
+add-step c = search needs
+
+mul-step-2 : tie.Need-mul-step-2 Inv-loop μ-loop
+mul-step-2 c = search needs
+
+shared-slice-read-step-2 : tie.Need-shared-slice-read-step-2 Inv-loop μ-loop
+shared-slice-read-step-2 c = search needs
+
+add-step-2 : tie.Need-add-step-2 Inv-loop μ-loop
+add-step-2 c = search needs
+
+mul-step-3 : tie.Need-mul-step-3 Inv-loop μ-loop
+mul-step-3 c = search needs
+
+shared-slice-read-step-3 : tie.Need-shared-slice-read-step-3 Inv-loop μ-loop
+shared-slice-read-step-3 c = search needs
+
 step-requires : tie.Need-step-requires Inv-loop μ-loop
 step-requires c κs =
     let g = c .before .before .before .before .before .before .before in
     let l = c .before .before .before .before .before .loop in (
       activity-below (g .args .words .now) (g .args .n) (g .pre) (l .i) (l .at) (c .before .before .before .before .loop-test .taken) (l .inv .placed),
-      running-state (g .args .words .now) (g .args .n) (g .pre) (l .i) (l .at) (l .due) (l .total) (l .peak) (l .inv),
+      (running-state (g .args .words .now) (g .args .n) (g .pre) (l .i) (l .at) (l .due) (l .total) (l .peak) (l .inv), l .inv .counted),
     )
 
-add-t19 : tie.Need-add-t19 Inv-loop μ-loop
-add-t19 c = search needs
+enum-known-stepped : tie.Need-enum-known-stepped Inv-loop μ-loop
+enum-known-stepped c = search needs
 
-cast-t20 : tie.Need-cast-t20 Inv-loop μ-loop
-cast-t20 c = search needs
+enum-told : tie.Need-enum-told Inv-loop μ-loop
+enum-told c = search needs
+
+add-t23 : tie.Need-add-t23 Inv-loop μ-loop
+add-t23 c = search needs
+
+cast-t24 : tie.Need-cast-t24 Inv-loop μ-loop
+cast-t24 c = search needs
 
 returns : tie.Need-returns Inv-loop μ-loop
 returns c =
-    let g = c .before .before .before .before .before .before .before .before .before in
-    let l = c .before .before .before .before .before .before .before .loop in
-    sym (running-impossible (g .args .words .now) (g .args .n) (g .pre) (l .i) (l .at) (l .due) (l .total) (l .peak) (l .inv) (c .before .before .before .before .before .before .loop-test .taken) (sym (c .before .step .ensures .0) ∙ not-true (c .before .step .result) (c .if1 .taken)))
-
-size-requires : tie.Need-size-requires Inv-loop μ-loop
-size-requires c κs = search needs
-
-sub-total : tie.Need-sub-total Inv-loop μ-loop
-sub-total c =
     let g = c .before .before .before .before .before .before .before .before .before .before in
     let l = c .before .before .before .before .before .before .before .before .loop in
-    omega (arith, input-counted (g .args .words .now) (g .args .n) (g .pre) (l .i) (l .at) (l .due) (l .total) (l .peak) (l .inv) (c .before .before .before .before .before .before .before .loop-test .taken) (sym (c .before .before .step .ensures .0) ∙ not-false (c .before .before .step .result) (c .before .if1 .left)))
-
-size-requires-2 : tie.Need-size-requires-2 Inv-loop μ-loop
-size-requires-2 c κs = search needs
-
-add-total : tie.Need-add-total Inv-loop μ-loop
-add-total c =
-    let g = c .before .before .before .before .before .before .before .before .before .before .before in
-    let l = c .before .before .before .before .before .before .before .before .before .loop in
-    omega (arith, l .inv .bounded, size-le (getD (g .args .words .now) (l .at + 2) 0))
+    sym (running-impossible (g .args .words .now) (g .args .n) (g .pre) (l .i) (l .at) (l .due) (l .total) (l .peak) (l .inv) (c .before .before .before .before .before .before .before .loop-test .taken) (rw (c .before .before .step .ensures .0) at (c .enum-told .given .1)))
 
 larger-requires : tie.Need-larger-requires Inv-loop μ-loop
 larger-requires c κs = search needs
@@ -99,22 +82,22 @@ loop-again : tie.Need-loop-again Inv-loop μ-loop
 loop-again c =
     let g = c .before .before .before .before .before .before .before .before .before .before .before .before in
     let l = c .before .before .before .before .before .before .before .before .before .before .loop in
-    running-next (g .args .words .now) (g .args .n) (g .pre) (l .i) (l .at) (l .due) (l .total) (l .peak) (l .inv) (c .before .before .before .before .before .before .before .before .before .loop-test .taken) _ _ _ (sym (c .before .before .before .before .step .ensures .0) ∙ not-false (c .before .before .before .before .step .result) (c .before .before .before .if1 .left))
-    (c .before .before .before .before .step .ensures .1 ∙ stepped-possible (l .due) _ _ _ (not-false (c .before .before .before .before .step .result) (c .before .before .before .if1 .left)))
-    (omega arith)
+    running-next (g .args .words .now) (g .args .n) (g .pre) (l .i) (l .at) (l .due) (l .total) (l .peak) (l .inv) (c .before .before .before .before .before .before .before .before .before .loop-test .taken) _ _ _
+    (rw (c .before .before .before .before .step .ensures .0) at (c .before .before .stepped .given .1))
+    (c .before .before .before .before .step .ensures .1)
     (c .larger .ensures)
 
 returns-2 : tie.Need-returns-2 Inv-loop μ-loop
 returns-2 c =
     let g = c .before .before .before .before in
     let l = c .before .before .loop in
-    sym (running-settled (g .args .words .now) (g .args .n) (g .pre) (l .i) (l .at) (l .due) (l .total) (l .peak) (l .inv) (c .before .loop-test .left) (c .if2 .taken))
+    sym (running-settled (g .args .words .now) (g .args .n) (g .pre) (l .i) (l .at) (l .due) (l .total) (l .peak) (l .inv) (c .before .loop-test .left) (c .if1 .taken))
 
 returns-3 : tie.Need-returns-3 Inv-loop μ-loop
 returns-3 c =
     let g = c .before .before .before .before in
     let l = c .before .before .loop in
-    sym (running-left (g .args .words .now) (g .args .n) (g .pre) (l .i) (l .at) (l .due) (l .total) (l .peak) (l .inv) (c .before .loop-test .left) (c .if2 .left))
+    sym (running-left (g .args .words .now) (g .args .n) (g .pre) (l .i) (l .at) (l .due) (l .total) (l .peak) (l .inv) (c .before .loop-test .left) (c .if1 .left))
 
 pub run-spec : {M : Type 1} → statement M
 run-spec =
@@ -123,22 +106,20 @@ run-spec =
     Inv-loop
     μ-loop
     loop-holds
-    add-x
-    mul-x
-    shared-slice-read-x
-    add-y
-    mul-y
-    shared-slice-read-y
     mul-step
     shared-slice-read-step
+    add-step
+    mul-step-2
+    shared-slice-read-step-2
+    add-step-2
+    mul-step-3
+    shared-slice-read-step-3
     step-requires
-    add-t19
-    cast-t20
+    enum-known-stepped
+    enum-told
+    add-t23
+    cast-t24
     returns
-    size-requires
-    sub-total
-    size-requires-2
-    add-total
     larger-requires
     add-i
     add-at
