@@ -1,36 +1,30 @@
--- The search of one side's sets for refusal 8, the peak's bounds, and the chain of judge's refusals. Assumes nothing.
-use Prim.Native.Nat.{ℕ, suc, _+_, _-_, _*_, _≤_, _<_}
+-- The search of one side's sets for refusal 8, and the chain of judge's refusals. Assumes nothing.
+use Prim.Native.Nat.{ℕ, _+_, _-_, _*_, _≤_, _<_}
 use mathlib.Core.Path.{_≡_, sym, ap, _∙_}
 use mathlib.Core.Bool.{true, false}
-use mathlib.Core.List.{List, [], _∷_}
+use mathlib.Core.List.{List}
 use native.Mathlib.Omega.{arith}
-use borrow.Author.Tests.{ne-eqb, eqb-true}
+use borrow.Author.Tests.{ne-eqb}
 use lib.ListN.{length, getD, drop}
 use Rattle.net.specs.Lists.{listed}
 use Rattle.net.specs.Sides.{sideIn}
 use Rattle.net.specs.Inner.{Sides}
 use Rattle.net.proofs.SideLaws.{length-side, side-at}
 use Rattle.net.proofs.ListLaws.{listed-here, listed-next, listed-end}
-use Rattle.obligations.specs.State.{nothing, total, State}
 use Rattle.obligations.specs.Trace.{shaped}
-use Rattle.obligations.specs.Sequence.{Binding, bindings, at, run, firstImpossible}
-use Rattle.obligations.proofs.StateLaws.{after-state, nothing-state, nothing-zero}
-use Rattle.obligations.proofs.TotalLaws.{after-total, zero-total}
-use Rattle.obligations.proofs.SequenceLaws.{fired, EachFrom, each-first, each-rest, each-possible-from}
+use Rattle.obligations.specs.Sequence.{Binding, bindings, at}
 use Rattle.net.specs.Refusals.{refused}
 use Rattle.net.specs.Orderly.{orderly}
 use Rattle.net.specs.declared.Net.{Net}
 use Rattle.walks.specs.Check.{lost, lowestMember}
-use Rattle.sequences.specs.Run.{largestTotal, outputSizes, ran}
-use Rattle.sequences.specs.Judge.{firstMissing, runSays, judgePositions, judgeSays, PeakOf, JudgeDone}
-use Rattle.sequences.specs.Inner.{limitsMeans, LimitsOf, RunJudged, PositionsJudged}
-use Rattle.sequences.specs.declared.JudgeAnswer.{JudgeAnswer}
+use Rattle.sequences.specs.Run.{ran}
+use Rattle.sequences.specs.Judge.{judgeMeans, firstMissing, runSays, judgePositions, judgeSays}
+use Rattle.sequences.specs.Inner.{limitsMeans, LimitsOf}
 use Rattle.sequences.specs.declared.JudgeAnswer.the-variants.{Judged, Refused}
 use Rattle.sequences.specs.declared.Limited.{Limited}
 use Rattle.sequences.specs.declared.Limited.the-variants.{Within, Beyond}
 use Rattle.sequences.specs.declared.Ran.the-variants.{Impossible, LeftOver, Settled}
 use Rattle.sequences.proofs.RunLaws.{impossible-shown, left-shown, settled-shown}
-use Rattle.sequences.proofs.GrowthLaws.{Activities}
 
 -- ---- the search of one side's sets, from the place j on
 
@@ -65,81 +59,54 @@ module _ (masks lengths : List ℕ) (a set j : ℕ) (s : Sides masks lengths) (h
   pub searching-end : 16 * a + getD lengths a 0 ≤ j → listed set (sideIn masks lengths a) ≡ false
   searching-end u = r .rest ∙ listed-end set (j - 16 * a) (sideIn masks lengths a) (omega (arith, size, r .low))
 
--- ---- the peak
-
--- the total never exceeds what was added so far
-totals-bounded : (d : List ℕ) (s : List Binding) (n : ℕ) → State n d → Activities s → EachFrom d s → largestTotal d s ≤ total d + outputSizes s
-unfolding largestTotal outputSizes
-totals-bounded d [] n k a e = omega arith
-totals-bounded d (b ∷ s) n k a e =
-    let next = after-total d (b .activity) (b .input) (b .output) (k .long) (a 0 (omega arith)) (each-first d b s e) in
-    let rest = totals-bounded (fired d b) s (n + 1) (after-state n d (b .activity) (b .input) (b .output) k) (λ i l. a (suc i) (omega arith)) (each-rest d b s e) in
-    omega (arith, next, rest)
-
-pub peak-bounded : (s : List Binding) → Activities s → EachFrom nothing s → largestTotal nothing s ≤ outputSizes s
-peak-bounded s a e = omega (arith, totals-bounded nothing s 0 nothing-state a e, zero-total nothing nothing-zero)
-
 -- ---- the chain of refusals
 
-refused-peak : (s : List Binding) (n p : ℕ) → PeakOf s (Refused n p)
-refused-peak s n p = record {
-  at-least = λ k e. absurd (let z : _≡_ {A = ℕ} 0 1 = cc in omega arith);
-  at-most = λ k e. absurd (let z : _≡_ {A = ℕ} 0 1 = cc in omega arith);
-}
-
-module _ (s : List Binding) (h : Activities s) where
-  pub run-impossible : (place : ℕ) → ran s ≡ Impossible place → RunJudged s (Refused 10 place)
+module _ (s : List Binding) where
+  pub run-impossible : (place : ℕ) → ran s ≡ Impossible place → judgeMeans (Refused 10 place) ≡ runSays s
   unfolding runSays
-  run-impossible place q = let f = impossible-shown s place q in record { says = rw (f .0) (ap (refused 10) (sym (f .1))); peak-of = refused-peak s 10 place }
+  run-impossible place q = let f = impossible-shown s place q in rw (f .0) (ap (refused 10) (sym (f .1)))
 
-  pub run-left : ran s ≡ LeftOver → RunJudged s (Refused 11 0)
+  pub run-left : ran s ≡ LeftOver → judgeMeans (Refused 11 0) ≡ runSays s
   unfolding runSays
-  run-left q = let f = left-shown s q in record { says = rw (f .0, f .1); peak-of = refused-peak s 11 0 }
+  run-left q = let f = left-shown s q in rw (f .0, f .1)
 
-  pub run-settled : (peak : ℕ) → ran s ≡ Settled peak → RunJudged s (Judged peak)
+  pub run-settled : (peak : ℕ) → ran s ≡ Settled peak → judgeMeans (Judged peak) ≡ runSays s
   unfolding runSays
-  run-settled peak q =
-      let f = settled-shown s peak q in
-      let all = each-possible-from s (eqb-true (firstImpossible s) 0 (f .0)) in
-      let same : (k : ℕ) → Judged peak ≡ Judged k → peak ≡ k = λ k e. cc in
-      record {
-        says = rw (f .0, f .1);
-        peak-of = record { at-least = λ k e. omega (arith, f .2, same k e); at-most = λ k e. omega (arith, f .2, same k e, peak-bounded s h all) };
-      }
+  run-settled peak q = let f = settled-shown s peak q in rw (f .0, f .1, f .2)
 
 module _ (net : Net) (s : List Binding) where
-  pub refused-lost : (lost net ≡ 0 → ⊥) → PositionsJudged net s (Refused 6 (lowestMember (lost net)))
+  pub refused-lost : (lost net ≡ 0 → ⊥) → judgeMeans (Refused 6 (lowestMember (lost net))) ≡ judgePositions net s
   unfolding judgePositions
-  refused-lost ne = record { says = rw (ne-eqb (lost net) 0 ne); peak-of = refused-peak s 6 (lowestMember (lost net)) }
+  refused-lost ne = rw (ne-eqb (lost net) 0 ne)
 
   module _ (w : lost net ≡ 0) where
-    pub judged-ends : shaped (net .start) (net .end) (length s) (λ i. at s i .activity) ≡ false → PositionsJudged net s (Refused 7 0)
+    pub judged-ends : shaped (net .start) (net .end) (length s) (λ i. at s i .activity) ≡ false → judgeMeans (Refused 7 0) ≡ judgePositions net s
     unfolding judgePositions
-    judged-ends f = record { says = rw (w, f); peak-of = refused-peak s 7 0 }
+    judged-ends f = rw (w, f)
 
     module _ (h : shaped (net .start) (net .end) (length s) (λ i. at s i .activity) ≡ true) where
-      pub judged-missing : (place : ℕ) → place ≡ firstMissing net s → (place ≡ 0 → ⊥) → PositionsJudged net s (Refused 8 place)
+      pub judged-missing : (place : ℕ) → place ≡ firstMissing net s → (place ≡ 0 → ⊥) → judgeMeans (Refused 8 place) ≡ judgePositions net s
       unfolding judgePositions
-      judged-missing place e ne = record { says = rw (w, h, ← e, ne-eqb place 0 ne); peak-of = refused-peak s 8 place }
+      judged-missing place e ne = rw (w, h, ← e, ne-eqb place 0 ne)
 
-      pub judged-run : firstMissing net s ≡ 0 → {r : JudgeAnswer} → RunJudged s r → PositionsJudged net s r
+      pub judged-run : firstMissing net s ≡ 0 → judgePositions net s ≡ runSays s
       unfolding judgePositions
-      judged-run e j = record { says = rw (w, h, e) (j .says); peak-of = j .peak-of }
+      judged-run e = rw (w, h, e)
 
 module _ (net : Net) (ws : List ℕ) where
-  pub judged-disorderly : orderly net ≡ false → JudgeDone net ws (Refused 2 0)
+  pub judged-disorderly : orderly net ≡ false → judgeMeans (Refused 2 0) ≡ judgeSays net ws
   unfolding judgeSays
-  judged-disorderly f = record { says = rw f; peak-of = refused-peak (bindings ws) 2 0 }
+  judged-disorderly f = rw f
 
   module _ (o : orderly net ≡ true) (l : Limited) (d : LimitsOf ws l) where
-    pub judged-limits : (number place : ℕ) → l ≡ Beyond number place → JudgeDone net ws (Refused number place)
+    pub judged-limits : (number place : ℕ) → l ≡ Beyond number place → judgeMeans (Refused number place) ≡ judgeSays net ws
     unfolding judgeSays
     judged-limits number place e =
         let q = sym (d .says (judgePositions net (bindings ws))) ∙ ap (λ (k : Limited). limitsMeans k (judgePositions net (bindings ws))) e in
-        record { says = rw (o, q); peak-of = refused-peak (bindings ws) number place }
+        rw (o, q)
 
-    pub judged-positions : (n : ℕ) → l ≡ Within n → {r : JudgeAnswer} → PositionsJudged net (bindings ws) r → JudgeDone net ws r
+    pub judged-positions : (n : ℕ) → l ≡ Within n → judgeSays net ws ≡ judgePositions net (bindings ws)
     unfolding judgeSays
-    judged-positions n e j =
+    judged-positions n e =
         let q = sym (d .says (judgePositions net (bindings ws))) ∙ ap (λ (k : Limited). limitsMeans k (judgePositions net (bindings ws))) e in
-        record { says = rw (o, q) (j .says); peak-of = j .peak-of }
+        rw (o, q)

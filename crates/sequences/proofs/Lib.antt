@@ -9,6 +9,7 @@ pub mod GrowthLaws
 pub mod FitLaws
 pub mod AcceptLaws
 pub mod FollowLearnLaws
+pub mod PeakLaws
 pub mod JudgeLaws
 pub mod MissingLaws
 pub mod ValidLaws

@@ -10,7 +10,7 @@ use native.Mathlib.Omega.{arith}
 use borrow.Author.Tests.{leb-true, leb-false}
 use lib.ListN.{length}
 use Rattle.obligations.specs.Limits.{positions}
-use Rattle.obligations.specs.State.{allZero}
+use Rattle.obligations.specs.State.{nothing, allZero}
 use Rattle.obligations.specs.Trace.{shaped}
 use Rattle.obligations.specs.Sequence.{Binding, bindings, ψ, NothingLeft, possibleAt, firstImpossible}
 use Rattle.obligations.proofs.BoolLaws.{and-left, and-right, and-both, false-not-true}
@@ -28,7 +28,7 @@ use Rattle.net.proofs.SentenceLaws.{Told, told-end, whole-link, chain-listed}
 use Rattle.net.proofs.CommonLaws.{orderly-link, failing-link, activities-link, shape-link}
 use Rattle.walks.proofs.CheckLaws.{walks-link}
 use Rattle.sequences.specs.Limits.{activityOf, notSequence, longTrace, wordsWithin, withinLimits, traceWithinLimits}
-use Rattle.sequences.specs.Run.{Impossible, notPossible, leftOver}
+use Rattle.sequences.specs.Run.{Impossible, notPossible, leftOver, largestTotal}
 use Rattle.sequences.specs.Gain.{Fits, notFitting, fits}
 use Rattle.sequences.specs.Learn.{WronglyEmpty, learnRefusals, emptyAgree, firstWronglyEmpty, newSets, learnPositions, learnSays}
 use Rattle.sequences.specs.Follow.{followed, followRefusals, followPositions, followSays}
@@ -149,11 +149,11 @@ module _ (net : Net) (trace : List ℕ) where
 
 -- ---- judge
 
-pub judge-told : (net : Net) (ws : List ℕ) → Told refused (judgeRefusals net ws) (accepted 0) (judgeSays net ws)
+pub judge-told : (net : Net) (ws : List ℕ) → Told refused (judgeRefusals net ws) (accepted (largestTotal nothing (bindings ws))) (judgeSays net ws)
 unfolding judgeSays withinLimits judgePositions runSays
 judge-told net ws =
     let s = bindings ws in
-    let value = accepted 0 in
+    let value = accepted (largestTotal nothing s) in
     orderly-link refused value _ _ net
     (λ o. words-link value _ _ ws
     (λ w. activities-link refused value _ _ (length s) (activityOf s)
@@ -165,4 +165,4 @@ judge-told net ws =
     (λ z. told-end refused value))))))))
 
 pub judge-listed : (net : Net) (ws : List ℕ) → AsListed refused (judgeRefusals net ws) (judgeSays net ws)
-judge-listed net ws = chain-listed (judgeRefusals net ws) refl 0 (judge-told net ws)
+judge-listed net ws = chain-listed (judgeRefusals net ws) refl (largestTotal nothing (bindings ws)) (judge-told net ws)

@@ -4,8 +4,10 @@ use native.Mathlib.Omega.{arith}
 use mathlib.Core.Path.{_≡_, refl, sym, ap, subst, _∙_}
 use mathlib.Core.Bool.{true}
 use mathlib.Core.List.{List}
-use mathlib.Core.Logic.{inr}
+use mathlib.Core.Logic.{_↔_, inr}
+use Rattle.obligations.specs.State.{nothing}
 use Rattle.obligations.specs.Sequence.{bindings, at, WellFormed}
+use Rattle.obligations.proofs.SequenceLaws.{each-possible-from}
 use Rattle.net.specs.Refusals.{Says, accepted}
 use Rattle.net.specs.Sides.{netSize}
 use Rattle.net.specs.Orderly.{orderly}
@@ -13,12 +15,14 @@ use Rattle.net.specs.declared.Net.{Net}
 use Rattle.net.specs.declared.Side.the-variants.{Input, Output}
 use Rattle.net.proofs.OrderlyLaws.{orderly-facts, facts-orderly}
 use Rattle.net.proofs.SentenceLaws.{told-accepted, told-value, told-ok}
+use Rattle.sequences.specs.Run.{Peak, largestTotal}
 use Rattle.sequences.specs.Gain.{gained, fits}
 use Rattle.sequences.specs.Learn.{learnRefusals, newSets, learnSays, learnGives}
 use Rattle.sequences.specs.Follow.{followGives}
 use Rattle.sequences.specs.Judge.{judgeRefusals}
-use Rattle.sequences.specs.Statements.{LearnListed, FollowListed, JudgeListed, NoneHoldsLearnable, LearnAccepts, FitsTestRight, LearnHolds, LearnValid, RefusedSame, FollowLearns, NoneHoldsJudgeable, JudgeAccepts}
-use Rattle.sequences.proofs.AcceptLaws.{fits-formed, accepted-learnable, learnable-accepted}
+use Rattle.sequences.specs.Statements.{LearnListed, FollowListed, JudgeListed, NoneHoldsLearnable, LearnAccepts, FitsTestRight, LearnHolds, LearnValid, RefusedSame, FollowLearns, Judgeable, NoneHoldsJudgeable, JudgeAccepts, LargestIsPeak, PeakWithin}
+use Rattle.sequences.proofs.AcceptLaws.{fits-formed, formed-possible, accepted-learnable, learnable-accepted}
+use Rattle.sequences.proofs.PeakLaws.{largest-exactly, peak-bounded}
 use Rattle.sequences.proofs.ValidLaws.{accepted-judgeable, judgeable-accepted}
 use Rattle.sequences.proofs.RefusalLaws.{learn-told, learn-listed, follow-listed, judge-told, judge-listed}
 use Rattle.sequences.proofs.GrowthLaws.{Activities, gained-orderly, gained-contained, gained-size, gained-on-side}
@@ -119,15 +123,34 @@ refused-same net ws n p = ((λ e. rw (ap (λ (s : Says). s .ok) e)), (λ e. rw (
 
 -- ---- judge
 
-pub judge-accepts : JudgeAccepts
-judge-accepts net ws peak = (
-  (λ e. accepted-judgeable net ws (ap (λ (s : Says). s .ok) e)),
-  (λ l. told-ok (judgeRefusals net ws) 0 (judge-told net ws) (judgeable-accepted net ws l)),
-)
-
+-- what is said where the tests pass is the largest total
 pub none-holds-judgeable : NoneHoldsJudgeable
 none-holds-judgeable net ws =
-    let t = told-accepted (judgeRefusals net ws) 0 (judge-told net ws) in (
-      (λ none. judge-accepts net ws 0 .0 (t .1 none)),
-      (λ l. t .0 (judge-accepts net ws 0 .1 l)),
+    let peak = largestTotal nothing (bindings ws) in
+    let t = told-accepted (judgeRefusals net ws) peak (judge-told net ws) in (
+      (λ none. accepted-judgeable net ws (ap (λ (s : Says). s .ok) (t .1 none))),
+      (λ l. t .0 (told-ok (judgeRefusals net ws) peak (judge-told net ws) (judgeable-accepted net ws l))),
     )
+
+pub largest-is-peak : LargestIsPeak
+largest-is-peak = largest-exactly
+
+-- of a sequence that is valid in a net, and so has two positions
+judged-peak : (net : Net) (ws : List ℕ) (peak : ℕ) → Judgeable net ws → (largestTotal nothing (bindings ws) ≡ peak) ↔ Peak (bindings ws) peak
+judged-peak net ws peak l = largest-exactly (bindings ws) peak (omega (arith, l .valid .well-formed .shape .two))
+
+pub judge-accepts : JudgeAccepts
+judge-accepts net ws peak =
+    let t = told-value (judgeRefusals net ws) (largestTotal nothing (bindings ws)) peak (judge-told net ws) in
+    let j = none-holds-judgeable net ws in (
+      (λ e. let l = j .0 (t .0 e .0) in (l, judged-peak net ws peak l .0 (sym (t .0 e .1)))),
+      (λ w. t .1 (j .1 (w .0), sym (judged-peak net ws peak (w .0) .1 (w .1)))),
+    )
+
+pub peak-within : PeakWithin
+peak-within net ws peak e =
+    let s = bindings ws in
+    let w = judge-accepts net ws peak .0 e in
+    let f = w .0 .valid .well-formed in
+    let all = each-possible-from s (formed-possible (net .start) (net .end) s f) in
+    (w .1 .highest, omega (arith, judged-peak net ws peak (w .0) .1 (w .1), peak-bounded s (f .activities-only) all))

@@ -35,6 +35,3 @@ pub shaped-same : (start end : ℕ) (ws : List ℕ) (n : ℕ) → WithinLimits w
 shaped-same start end ws n p =
     ap (λ (k : ℕ). shaped start end k (λ i. at (bindings ws) i .activity)) (positions-many ws n p)
     ∙ shaped-ext start end n (λ i. at (bindings ws) i .activity) (λ i. getD ws (3 * i) 0) (λ i h. held-at ws i (omega (arith, positions-many ws n p)) .activity-held)
-
-pub positions-activities : (ws : List ℕ) (n : ℕ) → WithinLimits ws n → (i : ℕ) → i < length (bindings ws) → at (bindings ws) i .activity < 32
-positions-activities ws n p i l = rw (held-at ws i l .activity-held) (p .activities-only i (omega (arith, positions-many ws n p)))

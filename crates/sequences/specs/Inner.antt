@@ -16,12 +16,10 @@ use Rattle.sequences.specs.Limits.{withinLimits, traceWithinLimits}
 use Rattle.sequences.specs.Gain.{gained, fits}
 use Rattle.sequences.specs.Learn.{learnMeans, newSets, learnPositions}
 use Rattle.sequences.specs.Follow.{followed, followPositions}
-use Rattle.sequences.specs.Judge.{judgeMeans, runSays, judgePositions, PeakOf}
 use Rattle.sequences.specs.declared.Limited.{Limited}
 use Rattle.sequences.specs.declared.Limited.the-variants.{Within, Beyond}
 use Rattle.sequences.specs.declared.gaining.Gained.{Gained}
 use Rattle.sequences.specs.declared.gaining.Gained.the-variants.{Added, NoRoom}
-use Rattle.sequences.specs.declared.JudgeAnswer.{JudgeAnswer}
 use Rattle.sequences.specs.declared.LearnResult.{LearnResult}
 
 -- ---- limits
@@ -73,7 +71,7 @@ pub record RefusedWith (net : Net) (number place : ℕ) (r : LearnResult) : Type
   pub says : learnMeans (r .answer) ≡ refused number place
   pub gives : r .net ≡ net
 
--- ---- learn, follow and judge, of what is within the limits
+-- ---- learn and follow, of what is within the limits
 
 pub record PositionsDone (net : Net) (s : List Binding) (r : LearnResult) : Type 0 where
   pub says : learnMeans (r .answer) ≡ learnPositions net s
@@ -86,11 +84,3 @@ nextSet trace i = cond (ltb (i + 1) (length trace)) (single (getD trace (i + 1) 
 pub record TraceDone (net : Net) (trace : List ℕ) (r : LearnResult) : Type 0 where
   pub says : learnMeans (r .answer) ≡ followPositions net trace
   pub gives : r .net ≡ cond (followPositions net trace .ok) (gained net (followed trace)) net
-
-pub record PositionsJudged (net : Net) (s : List Binding) (r : JudgeAnswer) : Type 0 where
-  pub says : judgeMeans r ≡ judgePositions net s
-  pub peak-of : PeakOf s r
-
-pub record RunJudged (s : List Binding) (r : JudgeAnswer) : Type 0 where
-  pub says : judgeMeans r ≡ runSays s
-  pub peak-of : PeakOf s r

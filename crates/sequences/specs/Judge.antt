@@ -1,9 +1,7 @@
 -- Judge (01, "Net check and judge"): refusals 2, 3, 4, 6, 7, 8, 10, 11 in this order.
-use Prim.Native.Nat.{ℕ, min, _≤_}
-use mathlib.Core.Path.{_≡_}
-use mathlib.Core.Bool.{Bool, cond, _&&_}
+use Prim.Native.Nat.{ℕ}
+use mathlib.Core.Bool.{Bool, _&&_}
 use mathlib.Core.List.{List, [], _∷_}
-use lib.Dec.{eqb}
 use lib.ListN.{length}
 use Rattle.obligations.specs.Tests.{firstFailing}
 use Rattle.obligations.specs.Trace.{shaped}
@@ -21,14 +19,14 @@ use Rattle.net.specs.declared.Side.{Side}
 use Rattle.net.specs.declared.Side.the-variants.{Input, Output}
 use Rattle.walks.specs.Check.{onNoWalk, onWalks}
 use Rattle.sequences.specs.Limits.{activityOf, notSequence, withinLimits}
-use Rattle.sequences.specs.Run.{notPossible, leftOver, largestTotal, outputSizes}
+use Rattle.sequences.specs.Run.{notPossible, leftOver, largestTotal}
 use Rattle.sequences.specs.Gain.{setFor}
 use Rattle.sequences.specs.declared.JudgeAnswer.{JudgeAnswer}
 use Rattle.sequences.specs.declared.JudgeAnswer.the-variants.{Judged, Refused}
 
--- what each answer means; the peak is left free, within bounds, and isn't part of it
+-- what each answer means: an accepted one's value is the peak
 abbrev pub judgeMeans : JudgeAnswer → Says
-judgeMeans (Judged peak) = accepted 0
+judgeMeans (Judged peak) = accepted peak
 judgeMeans (Refused n p) = refused n p
 
 -- ---- the refusals
@@ -60,9 +58,9 @@ onSideAt net side s i = listed (setFor side (at s i)) (setsOn net side (at s i .
 unfoldable pub firstMissing : Net → List Binding → ℕ
 firstMissing net s = firstFailing (length s) (λ i. onSideAt net Input s i && onSideAt net Output s i)
 
--- refusals 10 and 11
+-- refusals 10 and 11, and the peak
 unfoldable pub runSays : List Binding → Says
-runSays s = noneAt (firstImpossible s) not-possible (unless (allZero (ψ s)) left-over (accepted 0))
+runSays s = noneAt (firstImpossible s) not-possible (unless (allZero (ψ s)) left-over (accepted (largestTotal nothing s)))
 
 -- refusals 6, 7 and 8, then those, of a sequence within the limits
 unfoldable pub judgePositions : Net → List Binding → Says
@@ -75,12 +73,3 @@ judgePositions net s =
 -- refusals 2, 3 and 4, then those
 unfoldable pub judgeSays : Net → List ℕ → Says
 judgeSays net ws = unless (orderly net) disorderly (withinLimits ws (judgePositions net (bindings ws)))
-
--- the peak's bounds: the largest total of counts after any position, and the sum of the sizes of all Y
-pub record PeakOf (s : List Binding) (r : JudgeAnswer) : Type 0 where
-  pub at-least : (peak : ℕ) → r ≡ Judged peak → largestTotal nothing s ≤ peak
-  pub at-most : (peak : ℕ) → r ≡ Judged peak → peak ≤ outputSizes s
-
-pub record JudgeDone (net : Net) (ws : List ℕ) (r : JudgeAnswer) : Type 0 where
-  pub says : judgeMeans r ≡ judgeSays net ws
-  pub peak-of : PeakOf (bindings ws) r

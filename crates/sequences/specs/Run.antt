@@ -1,5 +1,6 @@
--- A sequence run from the state in which nothing is due: refusals 10 and 11, and the peak (01, "Net check and judge").
-use Prim.Native.Nat.{ℕ, _+_, max}
+-- A sequence run from the state in which nothing is due: refusals 10 and 11 (01, "Net check and judge"), and the peak
+-- (02, (i)).
+use Prim.Native.Nat.{ℕ, _+_, max, _≤_, _<_}
 use mathlib.Core.Path.{_≡_}
 use mathlib.Core.Bool.{cond}
 use mathlib.Core.List.{List, [], _∷_}
@@ -8,9 +9,8 @@ use lib.ListN.{length, take}
 use Rattle.obligations.specs.Sets.{size}
 use Rattle.obligations.specs.State.{nothing, after, allZero, total}
 use Rattle.obligations.specs.Sequence.{Binding, at, ψ, Possible, NothingLeft, firstImpossible}
-use Rattle.net.specs.Refusals.{Says, accepted, not-possible, left-over}
+use Rattle.net.specs.Refusals.{not-possible, left-over}
 use Rattle.net.specs.Sentences.{Sentence, whole, first}
-use Rattle.net.specs.Chains.{unless, noneAt}
 use Rattle.sequences.specs.declared.Ran.{Ran}
 use Rattle.sequences.specs.declared.Ran.the-variants as ran-as
 
@@ -27,9 +27,22 @@ notPossible s = first not-possible (length s) (Impossible s)
 abbrev pub leftOver : List Binding → Sentence
 leftOver s = whole left-over (NothingLeft (ψ s) → ⊥)
 
--- ---- the peak, and how a sequence runs
+-- ---- the peak
 
--- the largest total of counts after any position, from the state d on
+-- the total of all counts after the position with i others before it
+abbrev pub totalAfter : List Binding → ℕ → ℕ
+totalAfter s i = total (ψ (take (i + 1) s))
+
+-- the peak of a sequence: the total after some position, and no total after any position is above it
+pub record Peak (s : List Binding) (peak : ℕ) : Type 0 where
+  pub position : ℕ
+  pub inside : position < length s
+  pub reached : totalAfter s position ≡ peak
+  pub highest : (i : ℕ) → i < length s → totalAfter s i ≤ peak
+
+-- ---- what is computed
+
+-- the largest total after any position, from the state d on
 unfoldable pub largestTotal : List ℕ → List Binding → ℕ
 largestTotal d [] = 0
 largestTotal d (b ∷ s) =

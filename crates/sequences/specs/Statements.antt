@@ -7,6 +7,7 @@ use mathlib.Core.List.{List}
 use mathlib.Core.Logic.{_↔_}
 use lib.ListN.{length, getD}
 use Rattle.obligations.specs.Limits.{masks, positions}
+use Rattle.obligations.specs.State.{nothing}
 use Rattle.obligations.specs.Sequence.{Binding, bindings, words, WellFormed}
 use Rattle.net.specs.Sentences.{NoneHolds, AsListed}
 use Rattle.net.specs.Sides.{netSize}
@@ -14,6 +15,7 @@ use Rattle.net.specs.Orderly.{Orderly}
 use Rattle.net.specs.Valid.{Valid}
 use Rattle.net.specs.declared.Net.{Net}
 use Rattle.walks.specs.Walk.{Passes}
+use Rattle.sequences.specs.Run.{totalAfter, Peak, largestTotal, outputSizes}
 use Rattle.sequences.specs.Gain.{Fits, Gains, fits}
 use Rattle.sequences.specs.Learn.{learnMeans, learnRefusals, learnSays, learnGives}
 use Rattle.sequences.specs.Judge.{judgeMeans, judgeRefusals, judgeSays}
@@ -93,9 +95,20 @@ pub record Judgeable (net : Net) (ws : List ℕ) : Type 0 where
 abbrev pub NoneHoldsJudgeable : Type 0
 NoneHoldsJudgeable = (net : Net) (ws : List ℕ) → NoneHolds (judgeRefusals net ws) ↔ Judgeable net ws
 
--- the peak isn't part of what is said, so any case of it will do
+-- that is what judge accepts, and the number that it gives is the sequence's peak
 abbrev pub JudgeAccepts : Type 0
-JudgeAccepts = (net : Net) (ws : List ℕ) (peak : ℕ) → (judgeSays net ws ≡ judgeMeans (judge.Judged peak)) ↔ Judgeable net ws
+JudgeAccepts = (net : Net) (ws : List ℕ) (peak : ℕ) → (judgeSays net ws ≡ judgeMeans (judge.Judged peak)) ↔ (Judgeable net ws × Peak (bindings ws) peak)
+
+-- the peak as it is computed is the peak, of a sequence that has positions
+abbrev pub LargestIsPeak : Type 0
+LargestIsPeak = (s : List Binding) (peak : ℕ) → 0 < length s → (largestTotal nothing s ≡ peak) ↔ Peak s peak
+
+-- 01's bounds of the number that judge gives: at least the total of counts after any position, at most the sum of the sizes
+-- of all Y
+abbrev pub PeakWithin : Type 0
+PeakWithin =
+    (net : Net) (ws : List ℕ) (peak : ℕ) → judgeSays net ws ≡ judgeMeans (judge.Judged peak)
+    → ((i : ℕ) → i < length (bindings ws) → totalAfter (bindings ws) i ≤ peak) × (peak ≤ outputSizes (bindings ws))
 
 -- each word is of 32 bits, as every word in a program is
 abbrev pub Words : List ℕ → Type 0

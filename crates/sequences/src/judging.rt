@@ -15,12 +15,12 @@ ghost use mathlib.Core.Path.{_≡_};
 ghost use mathlib.Core.Bool.{true};
 ghost use Rattle.obligations.specs.Sequence.{bindings};
 ghost use Rattle.net.specs.Orderly.{orderly};
-ghost use Rattle.sequences.specs.Judge.{firstMissing, JudgeDone};
-ghost use Rattle.sequences.specs.Inner.{WithinLimits, RunJudged, PositionsJudged};
+ghost use Rattle.sequences.specs.Judge.{judgeMeans, firstMissing, runSays, judgePositions, judgeSays};
+ghost use Rattle.sequences.specs.Inner.{WithinLimits};
 
-// Accepts a sequence exactly if the net passes and the sequence is valid in it.
+// Accepts a sequence exactly if the net passes and the sequence is valid in it, and then gives its peak.
 pub fn judge(net: Net, sequence: &[u32]) -> JudgeAnswer
-    ensures { λ r. ⌜ JudgeDone net (now (sequence .entry)) r ⌝ }
+    ensures { λ r. ⌜ judgeMeans r ≡ judgeSays net (now (sequence .entry)) ⌝ }
 {
     if !is_orderly(net) {
         return JudgeAnswer::Refused {
@@ -42,7 +42,7 @@ pub fn judge(net: Net, sequence: &[u32]) -> JudgeAnswer
 fn judge_positions(net: Net, words: &[u32], n: usize) -> JudgeAnswer
     requires { ⌜ orderly net ≡ true ⌝ }
     requires { ⌜ WithinLimits (now words) n ⌝ }
-    ensures { λ r. ⌜ PositionsJudged net (bindings (now (words .entry))) r ⌝ }
+    ensures { λ r. ⌜ judgeMeans r ≡ judgePositions net (bindings (now (words .entry))) ⌝ }
 {
     let survey = survey_net(net);
     let lost = survey.lost;
@@ -113,7 +113,7 @@ fn first_missing(net: Net, words: &[u32], n: usize) -> u32
 // Refusals 10 and 11, and the peak.
 fn run_judged(words: &[u32], n: usize) -> JudgeAnswer
     requires { ⌜ WithinLimits (now words) n ⌝ }
-    ensures { λ r. ⌜ RunJudged (bindings (now (words .entry))) r ⌝ }
+    ensures { λ r. ⌜ judgeMeans r ≡ runSays (bindings (now (words .entry))) ⌝ }
 {
     let ran = run(words, n);
     match ran {

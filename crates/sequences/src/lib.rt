@@ -19,7 +19,7 @@ pub enum Ran {
     Impossible(u32),
     // Every binding was possible, and obligations are left at the end.
     LeftOver,
-    // Nothing is left; the largest total of counts after any position.
+    // Nothing is left; the peak.
     Settled(u32),
 }
 
@@ -31,8 +31,8 @@ pub enum Limited {
     Beyond(u32, u32),
 }
 
-// What judge answers: a peak of pending obligations, or the refusal's number and its place. The peak is at least the largest
-// total of counts after any position and at most the sum of the sizes of all Y.
+// What judge answers: the peak, which is the largest total of counts after any position, or the refusal's number and its
+// place.
 pub enum JudgeAnswer {
     Judged { peak: u32 },
     Refused { number: u32, place: u32 },

@@ -40,7 +40,7 @@ returns-3 : tie.Need-returns-3
 returns-3 c =
     let g = c .before .before .before .before .before .before .before .before in
     let ws = g .args .sequence .now in
-    judged-positions (g .args .net) ws (sym (c .before .before .before .before .before .before .is-orderly .ensures) ∙ not-false (c .before .before .before .before .before .before .is-orderly .result) (c .before .before .before .before .before .if1 .left)) (c .before .before .before .before .sequence-limits .result) (c .before .before .before .before .sequence-limits .ensures) (c .before .before .limits2 .given .0 .0) (c .before .before .limits2 .given .1) (c .judge-positions .ensures)
+    c .judge-positions .ensures ∙ sym (judged-positions (g .args .net) ws (sym (c .before .before .before .before .before .before .is-orderly .ensures) ∙ not-false (c .before .before .before .before .before .before .is-orderly .result) (c .before .before .before .before .before .if1 .left)) (c .before .before .before .before .sequence-limits .result) (c .before .before .before .before .sequence-limits .ensures) (c .before .before .limits2 .given .0 .0) (c .before .before .limits2 .given .1))
 
 pub judge-spec : {M : Type 1} → statement M
 judge-spec =

@@ -8,7 +8,7 @@ use Rattle.obligations.specs.Sequence.{bindings}
 use Rattle.walks.specs.Check.{lost, lowestMember}
 use Rattle.walks.proofs.LinkLaws.{lost-lt}
 use Rattle.walks.proofs.CheckLaws.{lowest-is}
-use Rattle.sequences.specs.Inner.{PositionsJudged}
+use Rattle.sequences.specs.Judge.{judgeMeans, judgePositions}
 use Rattle.sequences.specs.declared.JudgeAnswer.the-variants.{Refused}
 use Rattle.sequences.proofs.WordLaws.{shaped-same}
 use Rattle.sequences.proofs.JudgeLaws.{refused-lost, judged-ends, judged-missing, judged-run}
@@ -27,7 +27,7 @@ returns c =
     let e = c .before .survey-net .ensures .lost-are in
     let p : 0 < lost net = omega (arith, e, c .if1 .taken) in
     let q : lowestMember (lost net) ≡ trailingZeros 32 (c .before .survey-net .result .lost) = lowest-is (lost net) p (lost-lt net) ∙ ap (trailingZeros 32) (sym e) in
-    subst (λ (k : ℕ). PositionsJudged net (bindings ws) (Refused 6 k)) q (refused-lost net (bindings ws) (λ z. omega arith))
+    subst (λ (k : ℕ). judgeMeans (Refused 6 k) ≡ judgePositions net (bindings ws)) q (refused-lost net (bindings ws) (λ z. omega arith))
 
 is-shaped-requires : tie.Need-is-shaped-requires
 is-shaped-requires c κs = search needs
@@ -57,7 +57,7 @@ returns-4 c =
     let g = c .before .before .before .before .before .before .before .before in
     let net = g .args .net in
     let ws = g .args .words .now in
-    judged-run net (bindings ws) (rw (c .before .before .before .before .before .before .survey-net .ensures .lost-are) at (c .before .before .before .before .before .if1 .left)) (shaped-same (net .start) (net .end) ws (g .args .n) (g .pre .1) ∙ (rw (← c .before .before .before .before .is-shaped .ensures) (not-false _ (c .before .before .before .if2 .left)))) (rw (c .before .before .first-missing .ensures) at (c .before .if3 .left)) (c .run-judged .ensures)
+    c .run-judged .ensures ∙ sym (judged-run net (bindings ws) (rw (c .before .before .before .before .before .before .survey-net .ensures .lost-are) at (c .before .before .before .before .before .if1 .left)) (shaped-same (net .start) (net .end) ws (g .args .n) (g .pre .1) ∙ (rw (← c .before .before .before .before .is-shaped .ensures) (not-false _ (c .before .before .before .if2 .left)))) (rw (c .before .before .first-missing .ensures) at (c .before .if3 .left)))
 
 pub judge-positions-spec : {M : Type 1} → statement M
 judge-positions-spec =

@@ -1,7 +1,6 @@
 -- `run_judged` meets its contract, case by case of how the sequence ran. Assumes nothing.
 use mathlib.Core.Path.{sym, _∙_}
 use Rattle.obligations.specs.Sequence.{bindings}
-use Rattle.sequences.proofs.WordLaws.{positions-activities}
 use Rattle.sequences.proofs.JudgeLaws.{run-impossible, run-left, run-settled}
 use borrow.Author.Needs.{needs}
 use Rattle.sequences.proofs.judging.run_judged.Statement.{statement}
@@ -23,22 +22,19 @@ returns : tie.Need-returns
 returns c =
     let g = c .before .before .before .before .before in
     let ws = g .args .words .now in
-    let h = positions-activities ws (g .args .n) (g .pre) in
-    run-impossible (bindings ws) h (c .before .ran .given .0 .0) (sym (c .before .before .before .run .ensures) ∙ c .before .ran .given .1)
+    run-impossible (bindings ws) (c .before .ran .given .0 .0) (sym (c .before .before .before .run .ensures) ∙ c .before .ran .given .1)
 
 returns-2 : tie.Need-returns-2
 returns-2 c =
     let g = c .before .before .before .before in
     let ws = g .args .words .now in
-    let h = positions-activities ws (g .args .n) (g .pre) in
-    run-left (bindings ws) h (sym (c .before .before .run .ensures) ∙ c .enum-told .given .1)
+    run-left (bindings ws) (sym (c .before .before .run .ensures) ∙ c .enum-told .given .1)
 
 returns-3 : tie.Need-returns-3
 returns-3 c =
     let g = c .before .before .before .before .before in
     let ws = g .args .words .now in
-    let h = positions-activities ws (g .args .n) (g .pre) in
-    run-settled (bindings ws) h (c .before .ran2 .given .0 .0) (sym (c .before .before .before .run .ensures) ∙ c .before .ran2 .given .1)
+    run-settled (bindings ws) (c .before .ran2 .given .0 .0) (sym (c .before .before .before .run .ensures) ∙ c .before .ran2 .given .1)
 
 pub run-judged-spec : {M : Type 1} → statement M
 run-judged-spec =
