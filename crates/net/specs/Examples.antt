@@ -1,4 +1,4 @@
--- The papers' example of a net, for the examples of every crate.
+-- The papers' examples of nets, for the examples of every crate.
 use lib.ListN.{set, replicate}
 use Rattle.net.specs.declared.Net.{Net}
 
@@ -12,4 +12,16 @@ F = record {
   outputs = set (set (set (set (set (replicate 512 0) 0 2) 1 4) 2 6) 16 8) 32 8;
   «input_len» = set (set (set (set (replicate 32 0) 0 1) 1 1) 2 1) 3 3;
   «output_len» = set (set (set (set (replicate 32 0) 0 3) 1 1) 2 1) 3 1;
+}
+
+-- 003's net of the trip (Fig. 1), with activities a to e as 0 to 4: outputs of 0 and inputs of 4: 2, 4, 10, 14; inputs of 1 and 3: 1;
+-- inputs of 2: 1, 3; outputs of 1: 16, 20; outputs of 2 and 3: 16
+unfoldable pub travel : Net
+travel = record {
+  start = 0;
+  end = 4;
+  inputs = set (set (set (set (set (set (set (set (replicate 512 0) 16 1) 32 1) 33 3) 48 1) 64 2) 65 4) 66 10) 67 14;
+  outputs = set (set (set (set (set (set (set (set (replicate 512 0) 0 2) 1 4) 2 10) 3 14) 16 16) 17 20) 32 16) 48 16;
+  «input_len» = set (set (set (set (set (replicate 32 0) 0 1) 1 1) 2 2) 3 1) 4 4;
+  «output_len» = set (set (set (set (set (replicate 32 0) 0 4) 1 2) 2 1) 3 1) 4 1;
 }

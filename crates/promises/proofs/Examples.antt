@@ -1,20 +1,21 @@
--- The definitions computed: the marked examples of 01, and lists of calls which show that the promise says something of each kind
+-- The definitions computed: the marked examples of 01 and 02, and lists of calls which show that the promise says something of each kind
 -- of list: calls are accepted and refused, and of the nets that pass one contains the grown net and one doesn't. Assumes nothing.
 use Prim.Native.Nat.{ℕ, zero, suc}
 use mathlib.Core.Path.{_≡_, refl}
 use mathlib.Core.List.{List, [], _∷_, _++_, map}
+use lib.Dec.{lit<}
 use lib.ListN.{replicate}
 use Rattle.obligations.specs.Tests.{number, firstFrom, firstFailing}
-use Rattle.obligations.specs.Sets.{bit, member, single, union, keep, membersFrom, members}
+use Rattle.obligations.specs.Sets.{bit, member, single, union, keep, membersFrom, members, size}
 use Rattle.obligations.specs.State.{placesOf, inputs, outputs, allDue, lowered, raised, possible, taken, added, after, allZero, total}
 use Rattle.obligations.specs.Trace.{firstNoActivity, endsAgree, shaped}
 use Rattle.obligations.specs.Sequence.{bindings, run, possibleAt, firstImpossible}
-use Rattle.obligations.specs.Examples.{fig4}
+use Rattle.obligations.specs.Examples.{fig4, trip}
 use Rattle.net.specs.Lists.{allBelow, listed, allListed, ascendsAbove, zeros, insert}
 use Rattle.net.specs.Sides.{setsOn}
 use Rattle.net.specs.Orderly.{endsOk, blockOk, sidesOk, sized, orderly}
 use Rattle.net.specs.Fresh.{freshNet, freshGives}
-use Rattle.net.specs.Examples.{F}
+use Rattle.net.specs.Examples.{F, travel}
 use Rattle.net.specs.Traces.{traceWithin}
 use Rattle.net.specs.Put.{misplaced, sideSays, grows, putMasks, putLengths}
 use Rattle.net.specs.Contained.{sidesWithin, contained, containedMeans, containedSays}
@@ -26,6 +27,7 @@ use Rattle.walks.specs.Rows.{rowsFrom, rows, unionFrom, oneRound, rounds, reach
 use Rattle.walks.specs.Check.{onSides, inNet, successors, predecessors, outside, lost, lowestMember, checkMeans, checkSays}
 use Rattle.walks.specs.declared.CheckAnswer.the-variants.{Passed}
 use Rattle.sequences.specs.Limits.{wordsWithin, withinLimits, traceWithinLimits}
+use Rattle.sequences.specs.Run.{largestTotal, outputSizes}
 use Rattle.sequences.specs.Gain.{withPut, takesPut, withBinding, takesBinding, gained, fits}
 use Rattle.sequences.specs.Judge.{judgeSays, judgePositions, runSays, firstMissing, onSideAt}
 use Rattle.sequences.specs.Learn.{learnMeans, emptyAgree, firstWronglyEmpty, learnPositions, learnSays, learnGives}
@@ -34,13 +36,19 @@ use Rattle.sequences.specs.Follow.{followedFrom, followPositions, followSays, f
 use Rattle.search.specs.Search.{trialsOf, later, orElse, behind, trialIf, trial, tryOutputs, tryInputs, atEnd, searchFrom, searchOf}
 use Rattle.search.specs.Trace.{hasRoom}
 use Rattle.search.specs.Replay.{endSays, replayed, withinBudget, checkedSays, replayTests, replaySays}
+use Rattle.sequences.proofs.Theorems.{largest-is-peak}
 use Rattle.promises.specs.Calls.{Call, learn, follow, grown, answers}
-use Rattle.promises.specs.Marked.{Marked}
+use Rattle.promises.specs.Marked.{Marked, MarkedPeak}
 
 -- the marked examples
 pub marked : Marked
 unfolding freshGives judgeSays judgePositions runSays firstMissing onSideAt learnSays learnGives withinLimits wordsWithin bindings firstNoActivity firstFailing firstFrom learnPositions shaped endsAgree firstWronglyEmpty emptyAgree firstImpossible possibleAt possible run after taken added inputs outputs placesOf members membersFrom keep allDue lowered raised allZero fits takesBinding takesPut withBinding withPut gained sideSays misplaced listed insert grows putMasks putLengths total freshNet orderly sized endsOk sidesOk blockOk allBelow ascendsAbove zeros trialsOf later orElse behind trialIf trial tryOutputs tryInputs atEnd searchFrom searchOf endSays replayed withinBudget checkedSays hasRoom replayTests replaySays checkSays lowestMember lost outside successors predecessors inNet onSides reach rounds oneRound unionFrom rows rowsFrom arcs arc names named those thoseBelow withIf sumBelow number anyBelow union single member bit F fig4 answers
 marked = (refl, refl, refl, refl, refl, refl, refl, refl, refl, refl, refl, refl, refl)
+
+-- the peak is 4, and as the judge says it too
+pub marked-peak : MarkedPeak
+unfolding judgeSays judgePositions runSays firstMissing onSideAt withinLimits wordsWithin bindings firstNoActivity firstFailing firstFrom shaped endsAgree firstImpossible possibleAt possible run after taken added inputs outputs placesOf members membersFrom keep allDue lowered raised allZero total largestTotal outputSizes size listed orderly sized endsOk sidesOk blockOk allBelow ascendsAbove zeros lowestMember lost outside successors predecessors inNet onSides reach rounds oneRound unionFrom rows rowsFrom arc names named those thoseBelow withIf number anyBelow union single member bit travel trip
+marked-peak = (largest-is-peak (bindings trip) 4 (lit< tt) .0 refl, refl, refl)
 
 -- F is what three sequences give
 F-grown :

@@ -1,11 +1,14 @@
--- The marked examples of 01 ("Marked examples on net F, and slips"), as one list. It is checked in proofs/Examples.antt.
+-- The marked examples of 01 ("Marked examples on net F, and slips"), as one list, and those of 02 by request. They are checked in
+-- proofs/Examples.antt.
 use mathlib.Core.Path.{_≡_}
 use mathlib.Core.List.{List, [], _∷_, map}
-use Rattle.obligations.specs.Examples.{fig4}
+use Rattle.obligations.specs.Sequence.{bindings}
+use Rattle.obligations.specs.Examples.{fig4, trip}
 use Rattle.net.specs.Fresh.{freshGives}
-use Rattle.net.specs.Examples.{F}
+use Rattle.net.specs.Examples.{F, travel}
 use Rattle.walks.specs.Check.{checkMeans, checkSays}
 use Rattle.walks.specs.declared.CheckAnswer.the-variants.{Passed}
+use Rattle.sequences.specs.Run.{Peak, outputSizes}
 use Rattle.sequences.specs.Learn.{learnMeans}
 use Rattle.sequences.specs.Judge.{judgeMeans, judgeSays}
 use Rattle.sequences.specs.declared.LearnAnswer.the-variants as learned
@@ -14,7 +17,7 @@ use Rattle.search.specs.Replay.{replayMeans, replaySays}
 use Rattle.search.specs.declared.ReplayAnswer.the-variants.{Found, None, Spent}
 use Rattle.promises.specs.Calls.{learn, answers}
 
--- in the paper's order; each replay has a buffer of 12 words, and where the paper names no budget 1,000,000
+-- 01's, in its order; each replay has a buffer of 12 words, and where the paper names no budget 1,000,000
 abbrev pub Marked : Type 0
 Marked =
     (checkSays F ≡ checkMeans (Passed 4))
@@ -30,3 +33,7 @@ Marked =
     × (judgeSays F (0 ∷ 0 ∷ 6 ∷ 2 ∷ 1 ∷ 8 ∷ 3 ∷ 4 ∷ 0 ∷ []) ≡ judgeMeans (judged.Refused 11 0))
     × (answers (freshGives 0 3) (learn (0 ∷ 0 ∷ 2 ∷ 1 ∷ 3 ∷ 10 ∷ 3 ∷ 2 ∷ 0 ∷ []) ∷ []) ≡ map learnMeans (learned.Refused 10 2 ∷ []))
     × (answers (freshGives 0 4) (learn fig4 ∷ learn fig4 ∷ []) ≡ map learnMeans (learned.Learned 12 ∷ learned.Learned 0 ∷ []))
+
+-- 02, (i): "for the sequence of document 003's trip net with hotel, flight and car it is 4, where the sum of output sizes is 7"
+abbrev pub MarkedPeak : Type 0
+MarkedPeak = Peak (bindings trip) 4 × (judgeSays travel trip ≡ judgeMeans (judged.Judged 4)) × (outputSizes (bindings trip) ≡ 7)
