@@ -134,8 +134,8 @@ def judging():
        "judge 0 0 0 6 1 1 8 2 1 8 3 6 0",
        "judge 0 0 0 6 2 1 8 1 1 8 3 6 0")
 
-    note("The peak of a sequence of two positions: the largest total of counts is 1 and the sum "
-         "of the sizes of all Y is 1, so 1 is the only peak allowed.")
+    note("The peak of a sequence of two positions: the total of counts is 1 after the first and 0 "
+         "after the second.")
     ok("fresh 1 0 1")
     put_new(1, OUT, 0, 2)
     put_new(1, IN, 1, 1)

@@ -1,5 +1,6 @@
 """Section 6: judge, learn and follow, position by position."""
 
+import section_6_peaks
 from bindings import FIG_4, mask
 from calls import IN, OUT, put_new, read_f, same
 from limits import ACTIVITIES, ALL, LAST
@@ -23,6 +24,7 @@ def write():
     nets_that_learn_takes()
     all_activities_at_once()
     followed()
+    section_6_peaks.write()
 
 
 def valid_in_f():
