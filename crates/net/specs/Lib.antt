@@ -1,5 +1,5 @@
 -- The definitions that the contracts of `net` cite, and the statements proved of them. A reader of 01 needs all but the last
--- file; Statements has what is proved, and Examples the net of the marked examples.
+-- file; Statements has what is proved, and Examples the nets of the marked examples.
 pub mod Limits
 pub mod Refusals
 pub mod Sentences

@@ -1,5 +1,5 @@
 -- The definitions that the contracts of `obligations` cite, and the statements proved of them. A reader of 01 needs all of them;
--- Statements has what is proved, and Examples a sequence of the papers.
+-- Statements has what is proved, and Examples sequences of the papers.
 pub mod Limits
 pub mod Tests
 pub mod Sets
