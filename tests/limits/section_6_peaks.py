@@ -1,6 +1,6 @@
 """The part of section 6 on the peak, the largest total of counts after any position.
 
-Each note gives the total after each position.
+The notes give the totals, position by position.
 """
 
 from bindings import FIG_4, loop, mask, repeated
@@ -97,7 +97,7 @@ def counts_above_one():
 
 
 def stacked(ones, twos):
-    """Each 1 owes a 2, the first 2 takes the first of these, and each further 2 another one."""
+    """Each 1 makes a 2 due. Each 2 takes one of these and what the 2 before it made due."""
     return (f"0 0 2 1 1 6 {repeated('1 2 6', ones - 2)} 1 2 4 "
             f"2 2 4 {repeated('2 6 4', twos - 2)} 2 6 8 3 4 0")
 
@@ -110,7 +110,7 @@ def as_many_positions_as_can_be():
          f"to 1, and 0. The sum is {3 * most}.")
     learned_peak(stacked(most, most), 10, most)
 
-    note("One time fewer each: the same sets, and one less.")
+    note(f"One time fewer each: the same sets, and the totals go up to {most - 1}.")
     say(f"learn 0 {stacked(most - 1, most - 1)}", "ok 0")
     say(f"peak 0 {stacked(most - 1, most - 1)}", f"ok {most - 1}")
 
@@ -124,8 +124,8 @@ def as_many_positions_as_can_be():
 
 
 def all_twice(second):
-    """Each of the activities between start and end owes something to all of them, and is then, in a
-    second round, given what all owe it."""
+    """Each of the activities between start and end makes all of them due, and those of a second
+    round take this."""
     between = range(1, LAST)
     all_of_them = mask(*between)
     first_round = " ".join(f"{activity} 1 {all_of_them}" for activity in between)
@@ -137,8 +137,8 @@ def as_high_as_no_byte_holds():
     between = range(1, LAST)
     number = len(between)
 
-    note(f"The {number} activities from 1 to {LAST - 1} all owe each other something. Totals: "
-         f"{number} at the start, {number - 1} more at each of the next {number}, which is "
+    note(f"The {number} activities from 1 to {LAST - 1} make each other and themselves due. "
+         f"Totals: {number} at the start, {number - 1} more at each of the next {number}, which is "
          f"{number**2}, {number - 1} fewer at each of the {number} behind, and 0 at the end.")
     learned_peak(all_twice(between), 2 + 4 * number, number**2)
     say("check 0", f"ok {number**2 + 2 * number}")

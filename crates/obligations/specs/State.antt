@@ -1,4 +1,4 @@
--- The state of pending obligations and the step of a binding (01, "Obligations and the step").
+-- The state of pending obligations and the step of a binding (01, "Obligations and the step"; 02, (i)).
 use Prim.Native.Nat.{ℕ, _+_, _-_, _*_, _≤_}
 use mathlib.Core.Path.{_≡_}
 use mathlib.Core.Bool.{Bool, true, cond, _&&_}
@@ -85,8 +85,8 @@ unfoldable pub total : List ℕ → ℕ
 total [] = 0
 total (n ∷ ns) = n + total ns
 
--- what the step of the binding (a, x, y) reports: the total of all counts after it, or that the binding isn't possible; then
--- nothing is said of a total
+-- what the step of the binding (a, x, y) reports: the total of all counts after it (02, (i)), or that the binding isn't possible;
+-- then nothing is said of a total
 unfoldable pub stepSays : List ℕ → ℕ → ℕ → ℕ → Stepped
 stepSays d a x y = cond (possible d a x) (Total (total (after d a x y))) Impossible
 

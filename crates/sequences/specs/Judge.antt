@@ -1,4 +1,4 @@
--- Judge (01, "Net check and judge"): refusals 2, 3, 4, 6, 7, 8, 10, 11 in this order.
+-- Judge (01, "Net check and judge"): refusals 2, 3, 4, 6, 7, 8, 10, 11 in this order; else the peak (02, (i)).
 use Prim.Native.Nat.{ℕ}
 use mathlib.Core.Bool.{Bool, _&&_}
 use mathlib.Core.List.{List, [], _∷_}
