@@ -42,7 +42,7 @@ fn say_checked(answer: CheckAnswer) {
     }
 }
 
-// Replays a session with a budget of 1,000,000 trials. A buffer of 192 words, three for each of 64 positions, is enough for
+// Replays a session with a budget of 1,000,000 trials. A buffer of three words for each of the most positions is enough for
 // every trace; if the answer is Found the sequence stands at its front.
 fn say_replayed(net: Net, trace: &[u32]) {
     let mut sequence = [0u32; SEQUENCE_WORDS];

@@ -73,7 +73,7 @@ line-sessions r =
 pub line-entries : {n : ℕ} {l : List ℕ} {s : ℕ} {t : List ℕ} → LineRow n l s t → (k : ℕ) → List·Memᴰ k t → k ≤ highest
 line-entries r k m = values-most highest (entries (r .trace)) (r .numbers) k (rw (r .trace-is) at m)
 
--- it can be written to a buffer of 64 words, and what is then there is its trace
+-- it can be written to a buffer that is long enough for every row, and what is then there is its trace
 pub line-is-row : {n : ℕ} {l : List ℕ} {s : ℕ} {t : List ℕ} (room : ℕ) → LineRow n l s t → positions ≤ room → IsLogRow l room
 line-is-row room r h = record { sessions = r .first; trace = r .trace; fields = r .fields; is-trace = record { numbers = r .numbers; few = omega (arith, r .few) } }
 

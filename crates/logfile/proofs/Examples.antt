@@ -1,8 +1,9 @@
 -- The definitions computed on the log of paper 01 and on short logs with one fault each. Assumes nothing.
-use Prim.Native.Nat.{ℕ}
+use Prim.Native.Nat.{ℕ, _+_, _-_}
 use mathlib.Core.Path.{_≡_, refl}
 use mathlib.Core.List.{List, [], _∷_, _++_}
 use lib.ListN.{replicate}
+use Rattle.obligations.specs.Limits.{positions}
 use Rattle.net.specs.Refusals.{outside-limits, line-form, number-form}
 use Rattle.text.specs.Lines.{cr, lf, unlines}
 use Rattle.text.specs.Fields.{comma, space, join}
@@ -22,10 +23,10 @@ d2 = 50
 abbrev d3 : ℕ
 d3 = 51
 
--- row r of a log of these lines, for a buffer of 64 words
+-- row r of a log of these lines, for the shortest buffer
 read : List (List ℕ) → ℕ → RowReading
 unfolding readRow sizesOk rowAfter readLine readFields isSessions isNumber
-read ls r = readRow (unlines (logHeader ∷ ls)) r 64
+read ls r = readRow (unlines (logHeader ∷ ls)) r positions
 
 -- `12,0 1 3` and `1000000,0 3`
 first : List ℕ
@@ -42,16 +43,16 @@ paper-log :
 unfolding read first second
 paper-log = (refl, refl, refl, refl)
 
--- the last line may lack its CR LF; a buffer of 63 words is too short for every row
-last-line : (readRow (logHeader ++ (cr ∷ lf ∷ first)) 1 64 ≡ row 12 (0 ∷ 1 ∷ 3 ∷ [])) × (readRow (logHeader ++ (cr ∷ lf ∷ first)) 9 63 ≡ fault outside-limits 0)
+-- the last line may lack its CR LF; a buffer of one word less is too short for every row
+last-line : (readRow (logHeader ++ (cr ∷ lf ∷ first)) 1 positions ≡ row 12 (0 ∷ 1 ∷ 3 ∷ [])) × (readRow (logHeader ++ (cr ∷ lf ∷ first)) 9 (positions - 1) ≡ fault outside-limits 0)
 unfolding first readRow sizesOk rowAfter readLine readFields isSessions isNumber
 last-line = (refl, refl)
 
 -- the empty file, a file with LF only, and a header that lacks its last byte: 13 at line 1
 headers :
-    (readRow [] 1 64 ≡ fault line-form 1)
-    × (readRow (logHeader ++ (lf ∷ first)) 1 64 ≡ fault line-form 1)
-    × (readRow (115 ∷ 101 ∷ 115 ∷ 115 ∷ 105 ∷ 111 ∷ 110 ∷ 115 ∷ comma ∷ 116 ∷ 114 ∷ 97 ∷ 99 ∷ []) 1 64 ≡ fault line-form 1)
+    (readRow [] 1 positions ≡ fault line-form 1)
+    × (readRow (logHeader ++ (lf ∷ first)) 1 positions ≡ fault line-form 1)
+    × (readRow (115 ∷ 101 ∷ 115 ∷ 115 ∷ 105 ∷ 111 ∷ 110 ∷ 115 ∷ comma ∷ 116 ∷ 114 ∷ 97 ∷ 99 ∷ []) 1 positions ≡ fault line-form 1)
 unfolding first readRow sizesOk
 headers = (refl, refl, refl)
 
@@ -74,16 +75,16 @@ numbers :
 unfolding read
 numbers = (refl, refl, refl, refl)
 
--- 64 entries are read and 65 are 3, but 14 where a 66th is no number
+-- as many entries as there may be are read and one more is 3, but 14 where the next is no number
 long : ℕ → List ℕ → List ℕ
 long n more = d1 ∷ comma ∷ (join space (replicate n (d3 ∷ [])) ++ more)
 
-entries-64 :
-    (read (long 64 [] ∷ []) 1 ≡ row 1 (replicate 64 3))
-    × (read (long 65 [] ∷ []) 1 ≡ fault outside-limits 2)
-    × (read (long 65 (space ∷ d0 ∷ d0 ∷ []) ∷ []) 1 ≡ fault number-form 2)
+longest :
+    (read (long positions [] ∷ []) 1 ≡ row 1 (replicate positions 3))
+    × (read (long (positions + 1) [] ∷ []) 1 ≡ fault outside-limits 2)
+    × (read (long (positions + 1) (space ∷ d0 ∷ d0 ∷ []) ∷ []) 1 ≡ fault number-form 2)
 unfolding read long
-entries-64 = (refl, refl, refl)
+longest = (refl, refl, refl)
 
 -- faults up to the row count, and those after it don't
 order : (read (first ∷ [] ∷ second ∷ []) 1 ≡ row 12 (0 ∷ 1 ∷ 3 ∷ [])) × (read (first ∷ [] ∷ second ∷ []) 2 ≡ fault line-form 3) × (read (first ∷ [] ∷ second ∷ []) 3 ≡ fault line-form 3)

@@ -42,7 +42,7 @@ TraceWritten field = (ks : List ℕ) × (field ≡ traceText ks) × ((k : ℕ) �
 
 -- ---- the sentences
 
--- 3: the file exceeds its bytes, the row asked for is 0, or the buffer is shorter than 64 words
+-- 3: the file exceeds its bytes, the row asked for is 0, or the buffer is shorter than the longest trace
 abbrev pub LogOutsideLimits : List ℕ → ℕ → ℕ → Type 0
 LogOutsideLimits text r room = (logBytes < length text) ⊎ ((r ≡ 0) ⊎ (room < positions))
 
@@ -58,7 +58,7 @@ CommasDiffer l = occurrences comma l ≡ 1 → ⊥
 abbrev pub NumbersDiffer : List ℕ → Type 0
 NumbersDiffer l = (sessions trace : List ℕ) × (split comma l ≡ sessions ∷ trace ∷ []) × ((SessionsWritten sessions → ⊥) ⊎ (TraceWritten trace → ⊥))
 
--- 3: a line's trace exceeds 64 positions, or line n holds a 1,001st row
+-- 3: a line's trace exceeds the limit of positions, or line n holds a 1,001st row
 abbrev pub RowExceeds : ℕ → List ℕ → Type 0
 RowExceeds n l = ((k : ℕ) × (ks : List ℕ) × (l ≡ rowText k ks) × (positions < length ks)) ⊎ (logRows + 1 < n)
 

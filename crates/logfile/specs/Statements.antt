@@ -29,7 +29,7 @@ RowSaid =
     → ((k : ℕ) (ks : List ℕ) → (readRow text r room ≡ row k ks) ↔ (RowNotRefused text r room × LineIs text (r + 1) (rowText k ks)))
     × ((readRow text r room ≡ end) ↔ (RowNotRefused text r room × ((l : List ℕ) → LineIs text (r + 1) l → ⊥)))
 
--- whatever is read as row r is a trace of at most 64 activities, of 1 to 1,000,000 sessions, and r is at most 1,000
+-- whatever is read as row r is a trace of activities within the limit of positions, of 1 to 1,000,000 sessions, and r is at most 1,000
 pub record Given (r s : ℕ) (t : List ℕ) : Type 0 where
   pub few-rows : r ≤ logRows
   pub some-sessions : 1 ≤ s

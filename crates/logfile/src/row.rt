@@ -88,8 +88,8 @@ enum Entries {
     Refused,
 }
 
-// How many entries the trace text[i..e] has. Those past the 64th are tested too, since a wrong one among them is refused by
-// 14, which comes before 3.
+// How many entries the trace text[i..e] has. Those past the last that a trace may have are tested too, since a wrong one among
+// them is refused by 14, which comes before 3.
 fn count_entries(text: &[u8], i: usize, e: usize) -> Entries
     requires { ⌜ (i ≤ e) × (e ≤ length (now text)) ⌝ }
     ensures { λ r. ⌜ r ≡ countEntries (slice i e (now (text .entry))) ⌝ }

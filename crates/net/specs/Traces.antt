@@ -11,7 +11,7 @@ use Rattle.obligations.specs.Trace.{firstNoActivity, shaped, Shaped}
 abbrev pub activityIn : List ℕ → ℕ → ℕ
 activityIn trace i = getD trace i 0
 
--- 3: a trace has at most 64 positions
+-- 3: a trace is within the limit of positions
 abbrev pub traceWithin : List ℕ → Bool
 traceWithin trace = leb (length trace) positions
 

@@ -1,10 +1,11 @@
 -- The definitions computed: the marked examples of 01 and 02, and lists of calls which show that the promise says something of each kind
 -- of list: calls are accepted and refused, and of the nets that pass one contains the grown net and one doesn't. Assumes nothing.
-use Prim.Native.Nat.{ℕ, zero, suc}
+use Prim.Native.Nat.{ℕ, zero, suc, _+_, _*_}
 use mathlib.Core.Path.{_≡_, refl}
 use mathlib.Core.List.{List, [], _∷_, _++_, map}
 use lib.Dec.{lit<}
 use lib.ListN.{replicate}
+use Rattle.obligations.specs.Limits.{positions}
 use Rattle.obligations.specs.Tests.{number, firstFrom, firstFailing}
 use Rattle.obligations.specs.Sets.{bit, member, single, union, keep, membersFrom, members, size}
 use Rattle.obligations.specs.State.{placesOf, inputs, outputs, allDue, lowered, raised, possible, taken, added, after, allZero, total}
@@ -88,13 +89,14 @@ through : ℕ → List Call → List Call
 through zero calls = calls
 through (suc n) calls = through n (follow (0 ∷ suc n ∷ 31 ∷ []) ∷ calls)
 
--- after sixteen ways the start's output side is full: a seventeenth is refused by 12. Then 65 positions and four words, by 3; the
--- number 32 at position 2, by 4; a set before the first position, by 9; an obligation that is left, by 11; and the first way again
+-- after sixteen ways the start's output side is full: a seventeenth is refused by 12. Then a position more than there may be, and
+-- four words, by 3; the number 32 at position 2, by 4; a set before the first position, by 9; an obligation that is left, by 11; and
+-- the first way again
 busy : List Call
 busy =
     through 16
     (follow (0 ∷ 17 ∷ 31 ∷ [])
-    ∷ learn (replicate 195 0)
+    ∷ learn (replicate (3 * (positions + 1)) 0)
     ∷ learn (0 ∷ 0 ∷ 2 ∷ 1 ∷ [])
     ∷ follow (0 ∷ 32 ∷ 31 ∷ [])
     ∷ learn (0 ∷ 2 ∷ 2 ∷ 1 ∷ 1 ∷ 2147483648 ∷ 31 ∷ 2 ∷ 0 ∷ [])

@@ -1,6 +1,6 @@
 -- Laws of what is read of a log: an answer is a row exactly if a row was to be read, and the trace of a row at a buffer's
 -- front is one that a replay takes. Assumes nothing.
-use Prim.Native.Nat.{ℕ, _≤_}
+use Prim.Native.Nat.{ℕ, _*_, _≤_}
 use mathlib.Core.Path.{_≡_, refl, sym, ap, _∙_}
 use mathlib.Core.List.{List, [], _∷_, _++_}
 use mathlib.Core.Logic.{⊎-elim}
@@ -38,7 +38,7 @@ not-row (Refused n p) h a b q = let z : _≡_ {A = ℕ} 0 1 = ap (λ (r : RowSay
 pub front-is : (t buf out : List ℕ) (n : ℕ) → out ≡ t ++ drop (length t) buf → length t ≡ n → take n out ≡ t
 front-is t buf out n e q = rw (e, sym q) (take-append-seam t (drop (length t) buf))
 
-pub row-with-room : (log : List ℕ) (r s : ℕ) (t : List ℕ) (room : ℕ) → readRow log r positions ≡ row s t → 192 ≤ room → TraceWithRoom t room
+pub row-with-room : (log : List ℕ) (r s : ℕ) (t : List ℕ) (room : ℕ) → readRow log r positions ≡ row s t → 3 * positions ≤ room → TraceWithRoom t room
 row-with-room log r s t room e h =
     let g = row-is-trace log r positions s t e in
     record { few-positions = g .few-entries; activities-only = λ i l. g .activities-only _ (member-at t i 0 l); three-words-each = omega (arith, g .few-entries) }

@@ -1,6 +1,6 @@
 -- A replay answers as its refusals are listed: each test of its chain fails exactly where its sentence holds, and where none fails
 -- the answer of the search is no refusal. So no refusal holds exactly if every test passes, which is that the net passes, the
--- trace has at most 64 positions, all of activities, and the buffer has three words for each. Assumes nothing.
+-- trace is within the limit of positions, all of activities, and the buffer has three words for each. Assumes nothing.
 use Prim.Native.Nat.{ℕ}
 use mathlib.Core.Path.{_≡_, refl, ap}
 use mathlib.Core.Bool.{Bool, true, false, cond}

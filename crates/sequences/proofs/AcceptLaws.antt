@@ -9,6 +9,7 @@ use native.Mathlib.Omega.{arith}
 use borrow.Author.Tests.{eq-eqb, eqb-true, le-leb, leb-true}
 use lib.Dec.{eqb, leb}
 use lib.ListN.{length}
+use Rattle.obligations.specs.Limits.{positions}
 use Rattle.obligations.specs.State.{allZero}
 use Rattle.obligations.specs.Trace.{firstNoActivity, shaped, Shaped}
 use Rattle.obligations.specs.Sequence.{Binding, bindings, at, ψ, WellFormed, firstImpossible}
@@ -68,16 +69,16 @@ well-placed net s h f i l = (
 
 -- ---- a sequence's words
 
-pub words-whole : (ws : List ℕ) → wordsWithin ws ≡ true → (n : ℕ) × (length ws ≡ 3 * n) × (n ≤ 64)
+pub words-whole : (ws : List ℕ) → wordsWithin ws ≡ true → (n : ℕ) × (length ws ≡ 3 * n) × (n ≤ positions)
 unfolding wordsWithin
 words-whole ws e =
-    let d = eqb-true (length ws % 3) 0 (and-left (eqb (length ws % 3) 0) (leb (length ws) 192) e) in
-    let m = leb-true (length ws) 192 (and-right (eqb (length ws % 3) 0) (leb (length ws) 192) e) in
+    let d = eqb-true (length ws % 3) 0 (and-left (eqb (length ws % 3) 0) (leb (length ws) (3 * positions)) e) in
+    let m = leb-true (length ws) (3 * positions) (and-right (eqb (length ws % 3) 0) (leb (length ws) (3 * positions)) e) in
     (length ws / 3, omega arith, omega arith)
 
-pub whole-words : (ws : List ℕ) (n : ℕ) → length ws ≡ 3 * n → n ≤ 64 → wordsWithin ws ≡ true
+pub whole-words : (ws : List ℕ) (n : ℕ) → length ws ≡ 3 * n → n ≤ positions → wordsWithin ws ≡ true
 unfolding wordsWithin
-whole-words ws n e h = and-both (eq-eqb (length ws % 3) 0 (omega arith)) (le-leb (length ws) 192 (omega arith))
+whole-words ws n e h = and-both (eq-eqb (length ws % 3) 0 (omega arith)) (le-leb (length ws) (3 * positions) (omega arith))
 
 -- ---- what learn accepts
 

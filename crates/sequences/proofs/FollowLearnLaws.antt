@@ -10,6 +10,7 @@ use native.Mathlib.Omega.{arith}
 use borrow.Author.Tests.{eq-eqb, ne-eqb, le-leb, leb-true}
 use lib.Dec.{leb}
 use lib.ListN.{length, getD}
+use Rattle.obligations.specs.Limits.{positions}
 use Rattle.obligations.specs.Sets.{single}
 use Rattle.obligations.specs.State.{allZero}
 use Rattle.obligations.specs.Trace.{firstNoActivity, shaped}
@@ -108,7 +109,7 @@ unfolding wordsWithin
 same-limits t =
     let l : length (words (followed t)) ≡ 3 * length t = length-words (followed t) ∙ ap (λ (k : ℕ). 3 * k) (length-followed 0 t) in
     rw (l, eq-eqb (3 * length t % 3) 0 (omega arith))
-    (same-test (leb (3 * length t) 192) (leb (length t) 64) (λ e. le-leb (length t) 64 (omega (arith, leb-true (3 * length t) 192 e))) (λ e. le-leb (3 * length t) 192 (omega (arith, leb-true (length t) 64 e))))
+    (same-test (leb (3 * length t) (3 * positions)) (leb (length t) positions) (λ e. le-leb (length t) positions (omega (arith, leb-true (3 * length t) (3 * positions) e))) (λ e. le-leb (3 * length t) (3 * positions) (omega (arith, leb-true (length t) positions e))))
 
 -- each chain from refusal 7 on, by its tests
 follow-ends : (net : Net) (t : List ℕ) → shaped (net .start) (net .end) (length t) (λ i. getD t i 0) ≡ false → followPositions net t ≡ refused 7 0

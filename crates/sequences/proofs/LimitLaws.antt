@@ -65,24 +65,24 @@ module _ (ws : List ℕ) (n : ℕ) (few : n ≤ positions) (l : length ws ≡ 3 
 
 -- ---- traces
 
-pub trace-too-long : (trace : List ℕ) → 64 < length trace → TraceLimitsOf trace (Beyond 3 0)
+pub trace-too-long : (trace : List ℕ) → positions < length trace → TraceLimitsOf trace (Beyond 3 0)
 unfolding traceWithinLimits
-trace-too-long trace h = record { says = λ rest. rw (lt-leb (length trace) 64 h); positions-are = λ n e. beyond-not-within e }
+trace-too-long trace h = record { says = λ rest. rw (lt-leb (length trace) positions h); positions-are = λ n e. beyond-not-within e }
 
-module _ (trace : List ℕ) (h : length trace ≤ 64) where
+module _ (trace : List ℕ) (h : length trace ≤ positions) where
   one-apart : firstNoActivity (length trace) (λ i. getD trace i 0) ≡ firstNoActivity (length trace) (λ i. getD trace (1 * i) 0)
   one-apart = no-activity-ext (length trace) (λ i. getD trace i 0) (λ i. getD trace (1 * i) 0) (λ i l. ap (λ (k : ℕ). getD trace k 0) (omega arith))
 
   pub trace-no-activity : (place : ℕ) → place ≡ firstNoActivity (length trace) (λ i. getD trace (1 * i) 0) → (place ≡ 0 → ⊥) → TraceLimitsOf trace (Beyond 4 place)
   unfolding traceWithinLimits
   trace-no-activity place e ne = record {
-    says = λ rest. rw (le-leb (length trace) 64 h, one-apart, ← e, ne-eqb place 0 ne);
+    says = λ rest. rw (le-leb (length trace) positions h, one-apart, ← e, ne-eqb place 0 ne);
     positions-are = λ k q. beyond-not-within q;
   }
 
   pub trace-within : firstNoActivity (length trace) (λ i. getD trace (1 * i) 0) ≡ 0 → TraceLimitsOf trace (Within (length trace))
   unfolding traceWithinLimits
   trace-within e = record {
-    says = λ rest. rw (le-leb (length trace) 64 h, one-apart, e);
+    says = λ rest. rw (le-leb (length trace) positions h, one-apart, e);
     positions-are = λ k q. let z : length trace ≡ k = cc in subst (TraceWithinLimits trace) z (record { whole = refl; few = h; activities-only = activities-below (length trace) (λ i. getD trace i 0) (one-apart ∙ e) });
   }

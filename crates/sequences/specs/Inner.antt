@@ -24,7 +24,7 @@ use Rattle.sequences.specs.declared.LearnResult.{LearnResult}
 
 -- ---- limits
 
--- what refusals 3 and 4 leave: n positions, at most 64, whose activities are below 32
+-- what refusals 3 and 4 leave: n positions, within the limit, whose activities are below 32
 pub record WithinLimits (ws : List ℕ) (n : ℕ) : Type 0 where
   pub whole : length ws ≡ 3 * n
   pub few : n ≤ positions

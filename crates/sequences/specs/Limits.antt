@@ -18,15 +18,15 @@ use Rattle.net.specs.Traces.{traceWithin, noActivityIn}
 abbrev pub activityOf : List Binding → ℕ → ℕ
 activityOf s i = at s i .activity
 
--- 3: a sequence's words aren't a multiple of three, or it exceeds 64 positions
+-- 3: a sequence's words aren't a multiple of three, or it exceeds the limit of positions
 abbrev pub notSequence : List ℕ → Sentence
 notSequence ws = whole outside-limits ((length ws % 3 ≡ 0 → ⊥) ⊎ (positions < length (bindings ws)))
 
--- 3: a trace exceeds 64 positions
+-- 3: a trace exceeds the limit of positions
 abbrev pub longTrace : List ℕ → Sentence
 longTrace trace = whole outside-limits (positions < length trace)
 
--- words are a multiple of three and hold at most 64 positions
+-- words are a multiple of three, and their positions are within the limit
 unfoldable pub wordsWithin : List ℕ → Bool
 wordsWithin ws = eqb (length ws % 3) 0 && leb (length ws) (3 * positions)
 

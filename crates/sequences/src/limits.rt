@@ -9,7 +9,7 @@ ghost use mathlib.Core.Path.{_≡_};
 ghost use Prim.Native.Nat.{_<_, _/_};
 ghost use Rattle.sequences.specs.Inner.{LimitsOf, TraceLimitsOf};
 
-// How many positions the words of a sequence have: a multiple of three words, at most 64 positions, activities below 32.
+// How many positions the words of a sequence have: a multiple of three words, within the limit, activities below 32.
 pub fn sequence_limits(words: &[u32]) -> Limited
     ensures { λ r. ⌜ LimitsOf (now (words .entry)) r ⌝ }
 {
@@ -38,7 +38,7 @@ fn third(k: usize) -> usize
     k * 171 >> 9
 }
 
-// How many positions a trace has: at most 64, activities below 32.
+// How many positions a trace has: within the limit, activities below 32.
 pub fn trace_limits(trace: &[u32]) -> Limited
     ensures { λ r. ⌜ TraceLimitsOf (now (trace .entry)) r ⌝ }
 {

@@ -1,12 +1,13 @@
 -- `write_rows` meets its contract. The loop's invariant: the reader stands at row `row`, and the lines of the rows from there
 -- on, stored, give the buffer with all lines stored. Assumes nothing.
-use Prim.Native.Nat.{_+_, _-_}
+use Prim.Native.Nat.{_+_, _-_, _*_}
 use mathlib.Core.Path.{_≡_, refl, sym, ap, _∙_}
 use native.Mathlib.Omega.{arith}
 use borrow.Author.Needs.{needs}
 use denote.Ref.{now}
 use lib.ListN.{length, drop, length-append}
 use lib.Seq.{length-take-le}
+use Rattle.obligations.specs.Limits.{positions}
 use Rattle.text.proofs.StoreLaws.{Storing, storing-start, storing-room, storing-more, storing-end}
 use Rattle.net.specs.declared.Side.the-variants.{Input, Output}
 use Rattle.net.proofs.OrderlyLaws.{orderly-arrays}
@@ -22,7 +23,7 @@ use Rattle.report.proofs.write_rows.Tie as tie
 
 abbrev Inv-loop : tie.InvT-loop
 Inv-loop text out₀ at net start end trace₀ bindings₀ cursor₀ p₀ row₀ out trace bindings cursor p row =
-    Standing text row cursor trace × (length bindings ≡ 192) × Storing out₀ p₀ (rowsText net text logRows 1) out p (rowsText net text (logRows + 1 - row) row)
+    Standing text row cursor trace × (length bindings ≡ 3 * positions) × Storing out₀ p₀ (rowsText net text logRows 1) out p (rowsText net text (logRows + 1 - row) row)
 
 abbrev μ-loop : tie.MeasureT-loop
 μ-loop text out₀ at net start end trace₀ bindings₀ cursor₀ p₀ row₀ out trace bindings cursor p row = logRows + 1 - row

@@ -1,14 +1,14 @@
--- `main` meets its contract and ends: it counts up to the number of cases. Assumes nothing.
+-- `main` meets its contract and ends: it counts up to the number of cases, which is less than a byte holds. Assumes nothing.
 use Prim.Native.Nat.{_≤_, _-_}
 use borrow.Author.Needs.{needs}
 use Rattle.test_cases.proofs.main.Statement.{statement}
 use Rattle.test_cases.proofs.main.Tie as tie
 
 abbrev Inv-loop : tie.InvT-loop
-Inv-loop case₀ case = case ≤ 49
+Inv-loop case₀ case = case ≤ 255
 
 abbrev μ-loop : tie.MeasureT-loop
-μ-loop case₀ case = 49 - case
+μ-loop case₀ case = 255 - case
 
 loop-holds : tie.Need-loop-holds Inv-loop μ-loop
 loop-holds c = search needs

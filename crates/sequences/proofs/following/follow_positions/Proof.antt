@@ -6,6 +6,7 @@ use native.Mathlib.Omega.{arith}
 use borrow.Author.Tests.{not-true, not-false}
 use lib.ListN.{length, take, replicate}
 use lib.Seq.{length-sets}
+use Rattle.obligations.specs.Limits.{positions}
 use Rattle.obligations.specs.Sequence.{Binding, bindings, words}
 use Rattle.obligations.proofs.SequenceLaws.{bindings-words}
 use Rattle.sequences.specs.Inner.{WithinLimits, GainDone}
@@ -39,10 +40,10 @@ front : (c : tie.After-write-followed)
 front c =
     let g = c .before .before .before .before .before in
     let t = g .args .trace .now in
-    ap (take (3 * g .args .n)) (c .write-followed .ensures) ∙ front-words (replicate 192 0) (followed t) (g .args .n) (length-followed 0 t ∙ g .pre .1 .whole) (omega (arith, g .pre .1 .few))
+    ap (take (3 * g .args .n)) (c .write-followed .ensures) ∙ front-words (replicate (3 * positions) 0) (followed t) (g .args .n) (length-followed 0 t ∙ g .pre .1 .whole) (omega (arith, g .pre .1 .few))
 
 array-share-prefix-sequence : tie.Need-array-share-prefix-sequence
-array-share-prefix-sequence c = omega (arith, c .before .before .before .before .before .pre .1 .few, ap length (c .write-followed .ensures), length-sets (replicate 192 0) 0 (words (followed (c .before .before .before .before .before .args .trace .now))))
+array-share-prefix-sequence c = omega (arith, c .before .before .before .before .before .pre .1 .few, ap length (c .write-followed .ensures), length-sets (replicate (3 * positions) 0) 0 (words (followed (c .before .before .before .before .before .args .trace .now))))
 
 slice-aggregate-gain : tie.Need-slice-aggregate-gain
 slice-aggregate-gain c =
