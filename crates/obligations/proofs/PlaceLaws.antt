@@ -13,6 +13,7 @@ use lib.Count.{trailingZeros}
 use lib.Dec.{leb, lit<}
 use lib.ListN.{length, getD, set, length-set, length-map, List·getD-eq-default}
 use lib.Pow.{pow-pos}
+use Rattle.obligations.specs.Limits.{mostDue}
 use Rattle.obligations.specs.Sets.{bit, single, keep, membersFrom, members, size}
 use Rattle.obligations.specs.State.{placesOf, allDue, lowered, raised, State}
 use Rattle.obligations.proofs.BoolLaws.{and-left, and-right, and-both}
@@ -209,7 +210,7 @@ module _ (base stride : ℕ) where
     unfolding Covers
     due-covers d m e j = ⊎-elim (λ z. omega arith) (λ p. omega (arith, places-once m j, due-at d (placesOf base stride m) e j p)) (eq-zero-or-pos (occ j (placesOf base stride m)))
 
-    pub state-room : (d : List ℕ) (m : ℕ) → State 254 d → Room d (placesOf base stride m)
+    pub state-room : (d : List ℕ) (m : ℕ) → State mostDue d → Room d (placesOf base stride m)
     unfolding Room
     state-room d m s j = omega (arith, s .small j, places-once m j)
 

@@ -1,6 +1,6 @@
 -- Laws of sequences: words and bindings, the state after one position more, how far its counts can grow, and the tests of
 -- `possible` and of the last state said of every position. Assumes nothing.
-use Prim.Native.Nat.{ℕ, zero, suc, _+_, _*_, _<_}
+use Prim.Native.Nat.{ℕ, zero, suc, _+_, _*_, _≤_, _<_}
 use mathlib.Core.Path.{_≡_, refl, ap, subst}
 use mathlib.Core.Logic.{⊎-elim, _↔_}
 use mathlib.Core.Bool.{true, _&&_}
@@ -9,11 +9,12 @@ use native.Mathlib.Numerals.{add-one}
 use native.Mathlib.Omega.{arith}
 use lib.ListN.{length, getD, take}
 use lib.Seq.{take-suc}
+use Rattle.obligations.specs.Limits.{positions, mostDue}
 use Rattle.obligations.specs.Tests.{firstFailing}
 use Rattle.obligations.specs.State.{nothing, possible, after, allZero, State}
 use Rattle.obligations.specs.Sequence.{Binding, bindings, words, at, run, ψ, Possible, NothingLeft, possibleAt, firstImpossible, completes}
 use Rattle.obligations.proofs.BoolLaws.{and-left, and-right, and-both, true-or-false, false-not-true}
-use Rattle.obligations.proofs.StateLaws.{after-state, nothing-state}
+use Rattle.obligations.proofs.StateLaws.{after-state, nothing-state, state-le}
 use Rattle.obligations.specs.Statements.{EachPossible, ImpossibleAfter}
 use Rattle.obligations.proofs.CountLaws.{possible-count, count-possible, zero-count, count-zero}
 use Rattle.obligations.proofs.PositionLaws.{AllPass, FailsFirst, pass-first, first-pass, fails-first, first-fails}
@@ -105,6 +106,10 @@ run-state n d (b ∷ s) h = subst (λ (k : ℕ). State k (run (fired d b) s)) (o
 -- a count never exceeds the number of positions so far
 pub ψ-state : (s : List Binding) → State (length s) (ψ s)
 ψ-state s = subst (λ (k : ℕ). State k (ψ s)) (omega arith) (run-state 0 nothing s nothing-state)
+
+-- within the limit of positions a byte holds each count and one more
+pub ψ-in-bytes : (s : List Binding) → length s ≤ positions → State mostDue (ψ s)
+ψ-in-bytes s h = state-le (omega arith) (ψ-state s)
 
 -- ---- each binding possible after those before it
 

@@ -7,6 +7,7 @@ use mathlib.Core.List.{List, [], _∷_}
 use mathlib.Core.Logic.{⊎-elim}
 use native.Mathlib.Omega.{arith}
 use lib.ListN.{length, getD}
+use Rattle.obligations.specs.Limits.{mostDue}
 use Rattle.obligations.specs.Sets.{size}
 use Rattle.obligations.specs.State.{possible, after, total, stepSays, stepGives, State}
 use Rattle.obligations.specs.Sequence.{Binding, Possible}
@@ -24,7 +25,7 @@ unfolding total
 total-le n [] h = omega arith
 total-le n (x ∷ xs) h = omega (arith, h 0, total-le n xs (λ i. h (suc i)))
 
-module _ (d : List ℕ) (a x : ℕ) (k : State 254 d) (h : a < 32) (t : possible d a x ≡ true) where
+module _ (d : List ℕ) (a x : ℕ) (k : State mostDue d) (h : a < 32) (t : possible d a x ≡ true) where
   -- x takes no more than there is
   pub carried-less : size x ≤ total d
   carried-less = omega (arith, taken-total d a x (k .long) h t)
@@ -32,7 +33,7 @@ module _ (d : List ℕ) (a x : ℕ) (k : State 254 d) (h : a < 32) (t : possible
   -- and with what y adds it fits 32 bits
   pub carried-fits : (y : ℕ) → (total d - size x) + size y < 4294967296
   carried-fits y =
-      let l : total d ≤ length d * 254 = total-le 254 d (k .small) in
+      let l : total d ≤ length d * mostDue = total-le mostDue d (k .small) in
       omega (arith, l, k .long, size-le y)
 
   pub carried : (y : ℕ) → total (after d a x y) ≡ (total d - size x) + size y

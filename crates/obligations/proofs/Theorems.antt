@@ -1,12 +1,12 @@
 -- The statements of specs/Statements.antt, each by its law. Assumes nothing.
-use Rattle.obligations.specs.Statements.{StepIsψ, PossibleIsEvery, UndoUndoes, StepTotal, TotalZero, StepReports, AllZeroIsEvery, MembersAreListed, SizeIsNumber, NoneImpossible, FirstIsImpossible, CompletesIsBoth, CountsStaySmall, ShapedIsFacts, WordsAndBack}
+use Rattle.obligations.specs.Statements.{StepIsψ, PossibleIsEvery, UndoUndoes, StepTotal, TotalZero, StepReports, AllZeroIsEvery, MembersAreListed, SizeIsNumber, NoneImpossible, FirstIsImpossible, CompletesIsBoth, CountsStaySmall, CountsStayInBytes, ShapedIsFacts, WordsAndBack}
 use Rattle.obligations.proofs.MemberLaws.{members-are, size-number}
 use Rattle.obligations.proofs.StateLaws.{before-after}
 use Rattle.obligations.proofs.CountLaws.{after-count, possible-count, count-possible, zero-count, count-zero}
 use Rattle.obligations.proofs.TotalLaws.{after-total, total-zero, zero-total}
 use Rattle.obligations.proofs.StepLaws.{step-said}
 use Rattle.obligations.proofs.TraceLaws.{shaped-facts, facts-shaped}
-use Rattle.obligations.proofs.SequenceLaws.{bindings-words, words-bindings, none-impossible, first-impossible, completes-both, ψ-state}
+use Rattle.obligations.proofs.SequenceLaws.{bindings-words, words-bindings, none-impossible, first-impossible, completes-both, ψ-state, ψ-in-bytes}
 
 pub step-is-ψ : StepIsψ
 step-is-ψ = after-count
@@ -46,6 +46,9 @@ completes-is-both = completes-both
 
 pub counts-stay-small : CountsStaySmall
 counts-stay-small = ψ-state
+
+pub counts-stay-in-bytes : CountsStayInBytes
+counts-stay-in-bytes = ψ-in-bytes
 
 pub shaped-is-facts : ShapedIsFacts
 shaped-is-facts start end n activityAt = (shaped-facts start end n activityAt, facts-shaped start end n activityAt)

@@ -16,3 +16,7 @@ pairs = 1024
 -- a sequence or a trace has at most this many positions
 abbrev pub positions : ℕ
 positions = 64
+
+-- the most that a count may be before a step: a byte, which the state keeps for each, then holds one more
+abbrev pub mostDue : ℕ
+mostDue = 254

@@ -7,7 +7,7 @@ use mathlib.Core.List.{List, List·Memᴰ}
 use mathlib.Core.Logic.{_↔_}
 use lib.Dec.{eqb}
 use lib.ListN.{length, take}
-use Rattle.obligations.specs.Limits.{activities, pairs}
+use Rattle.obligations.specs.Limits.{activities, pairs, positions, mostDue}
 use Rattle.obligations.specs.Tests.{indicator, number}
 use Rattle.obligations.specs.Sets.{member, members, size}
 use Rattle.obligations.specs.State.{count, nothing, possible, after, before, allZero, total, stepSays, stepGives, State}
@@ -84,6 +84,10 @@ CompletesIsBoth = (s : List Binding) → (completes nothing s ≡ true) ↔ (Eac
 -- a count never exceeds the number of positions so far
 abbrev pub CountsStaySmall : Type 0
 CountsStaySmall = (s : List Binding) → State (length s) (ψ s)
+
+-- so a step may follow every sequence within the limit of positions
+abbrev pub CountsStayInBytes : Type 0
+CountsStayInBytes = (s : List Binding) → length s ≤ positions → State mostDue (ψ s)
 
 -- start and end are first, last and nowhere else: the test agrees with the facts
 abbrev pub ShapedIsFacts : Type 0

@@ -2,8 +2,8 @@
 // the caller lends and that is changed in place. The counts of one q stand together, at q * 32 + p.
 //
 // These functions are called by the layers above and by nobody else. Their `requires` are those that a caller has at
-// hand: the activity is one, no count is above 254, since a count is at most the number of positions so far, and the total
-// of counts is what the step before reported.
+// hand: the activity is one, no count is so high that a byte couldn't hold one more, since a count is at most the number of
+// positions so far, and the total of counts is what the step before reported.
 
 use crate::ACTIVITIES;
 use crate::PAIRS;
@@ -12,7 +12,7 @@ ghost use mathlib.Core.Path.{_≡_};
 ghost use mathlib.Core.Bool.{true};
 ghost use Prim.Native.Nat.{_≤_, _<_, _+_, _-_, _*_};
 ghost use lib.ListN.{length, take, drop};
-ghost use Rattle.obligations.specs.Limits.{activities, pairs};
+ghost use Rattle.obligations.specs.Limits.{activities, pairs, mostDue};
 ghost use Rattle.obligations.specs.State.{placesOf, allDue, lowered, raised, possible, taken, added, covers, unadded, untaken, before, allZero, total, State, stepSays, stepGives};
 
 // The test for an all-zero state goes by parts of the counts: how many there are, and how long each is.
@@ -48,7 +48,7 @@ pub fn take(due: &mut [u8; PAIRS], a: u32, x: u32)
 // Adds one to each (a, q) with q in y.
 pub fn add(due: &mut [u8; PAIRS], a: u32, y: u32)
     requires { ⌜ a < activities ⌝ }
-    requires { ⌜ State 254 (now due) ⌝ }
+    requires { ⌜ State mostDue (now due) ⌝ }
     ensures { λ _. ⌜ now (due .exit) ≡ added (now (due .entry)) a y ⌝ }
 {
     raise(due, a, ACTIVITIES, y);
@@ -57,7 +57,7 @@ pub fn add(due: &mut [u8; PAIRS], a: u32, y: u32)
 // Undoes `take`.
 pub fn undo_take(due: &mut [u8; PAIRS], a: u32, x: u32)
     requires { ⌜ a < activities ⌝ }
-    requires { ⌜ State 254 (now due) ⌝ }
+    requires { ⌜ State mostDue (now due) ⌝ }
     ensures { λ _. ⌜ now (due .exit) ≡ untaken (now (due .entry)) a x ⌝ }
 {
     raise(due, a * ACTIVITIES, 1, x);
@@ -77,7 +77,7 @@ pub fn undo_add(due: &mut [u8; PAIRS], a: u32, y: u32)
 // summed: `pending` is the one before the step.
 pub fn step(due: &mut [u8; PAIRS], pending: u32, a: u32, x: u32, y: u32) -> Stepped
     requires { ⌜ a < activities ⌝ }
-    requires { ⌜ State 254 (now due) ⌝ }
+    requires { ⌜ State mostDue (now due) ⌝ }
     requires { ⌜ pending ≡ total (now due) ⌝ }
     ensures { λ r. ⌜ (r ≡ stepSays (now (due .entry)) a x y) × (now (due .exit) ≡ stepGives (now (due .entry)) a x y) ⌝ }
 {
@@ -92,7 +92,7 @@ pub fn step(due: &mut [u8; PAIRS], pending: u32, a: u32, x: u32, y: u32) -> Step
 // Brings back the state before a possible step of the binding (a, x, y).
 pub fn undo(due: &mut [u8; PAIRS], a: u32, x: u32, y: u32)
     requires { ⌜ a < activities ⌝ }
-    requires { ⌜ State 254 (now due) ⌝ }
+    requires { ⌜ State mostDue (now due) ⌝ }
     requires { ⌜ covers (now due) a y ≡ true ⌝ }
     ensures { λ _. ⌜ now (due .exit) ≡ before (now (due .entry)) a x y ⌝ }
 {
@@ -165,7 +165,7 @@ fn lower(due: &mut [u8; PAIRS], base: u32, stride: u32, set: u32)
 // Adds one to each place base + k * stride, for k in the set.
 fn raise(due: &mut [u8; PAIRS], base: u32, stride: u32, set: u32)
     requires { ⌜ (base + 31 * stride < pairs) × (0 < stride) ⌝ }
-    requires { ⌜ State 254 (now due) ⌝ }
+    requires { ⌜ State mostDue (now due) ⌝ }
     ensures { λ _. ⌜ now (due .exit) ≡ raised (now (due .entry)) (placesOf base stride set) ⌝ }
 {
     let mut rest = set;

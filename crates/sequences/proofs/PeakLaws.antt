@@ -1,16 +1,19 @@
 -- The peak: the largest total as it is computed is the total after some position, and no total after any position is above it.
 -- Both go along the sequence, from any state on. No total exceeds what was added so far, so the sum of the sizes of all Y
--- bounds the peak. Assumes nothing.
-use Prim.Native.Nat.{ℕ, zero, suc, _+_, _≤_, _<_}
+-- bounds the peak; of these the last Y has none, and each other at most 32. Assumes nothing.
+use Prim.Native.Nat.{ℕ, zero, suc, _+_, _*_, _≤_, _<_}
 use mathlib.Core.Path.{_≡_, ap, subst, _∙_}
 use mathlib.Core.List.{List, [], _∷_}
 use mathlib.Core.Logic.{_↔_, ⊎-elim}
 use native.Mathlib.Numerals.{add-one}
 use native.Mathlib.Omega.{arith}
 use lib.ListN.{length, take}
+use Rattle.obligations.specs.Limits.{activities}
+use Rattle.obligations.specs.Sets.{size}
 use Rattle.obligations.specs.State.{nothing, total, State}
-use Rattle.obligations.specs.Sequence.{Binding, run}
+use Rattle.obligations.specs.Sequence.{Binding, at, run}
 use Rattle.obligations.proofs.SetLaws.{lt-or-le}
+use Rattle.obligations.proofs.MemberLaws.{size-le, size-none}
 use Rattle.obligations.proofs.StateLaws.{after-state, nothing-state, nothing-zero}
 use Rattle.obligations.proofs.TotalLaws.{after-total, zero-total}
 use Rattle.obligations.proofs.SequenceLaws.{fired, run-nil, run-cons, EachFrom, each-first, each-rest}
@@ -83,3 +86,12 @@ totals-bounded d (b ∷ s) n k a e =
 
 pub peak-bounded : (s : List Binding) → Activities s → EachFrom nothing s → largestTotal nothing s ≤ outputSizes s
 peak-bounded s a e = omega (arith, totals-bounded nothing s 0 nothing-state a e, zero-total nothing nothing-zero)
+
+-- where the last Y, with n positions before it, is empty
+pub sizes-bounded : (s : List Binding) (n : ℕ) → length s ≡ suc n → at s n .output ≡ 0 → outputSizes s ≤ activities * n
+unfolding outputSizes
+sizes-bounded [] n e z = absurd (omega arith)
+sizes-bounded (b ∷ []) zero e z = omega (arith, ap size z, size-none)
+sizes-bounded (b ∷ []) (suc n) e z = absurd (omega arith)
+sizes-bounded (b ∷ c ∷ s) zero e z = absurd (omega arith)
+sizes-bounded (b ∷ c ∷ s) (suc n) e z = omega (arith, size-le (b .output), sizes-bounded (c ∷ s) n (omega arith) z)

@@ -12,15 +12,16 @@ use lib.Dec.{eqb}
 use lib.ListN.{length, getD, take, drop, length-take}
 use lib.Seq.{take-all, drop-cons}
 use lib.ListN.{drop-of-length-le}
+use Rattle.obligations.specs.Limits.{mostDue}
 use Rattle.obligations.specs.State.{nothing, possible, after, allZero, total, State, stepSays, stepGives}
 use Rattle.obligations.specs.Sequence.{Binding, bindings, at, ψ, possibleAt, firstImpossible}
 use Rattle.obligations.specs.declared.state.Stepped.the-variants as step
-use Rattle.obligations.proofs.StateLaws.{nothing-zero, state-le}
+use Rattle.obligations.proofs.StateLaws.{nothing-zero}
 use Rattle.obligations.proofs.TotalLaws.{total-zero, zero-total}
 use Rattle.obligations.proofs.StepLaws.{gives-possible, total-said, impossible-said}
 use Rattle.obligations.proofs.PositionLaws.{AllPass}
 use Rattle.obligations.proofs.TraceLaws.{pass-more}
-use Rattle.obligations.proofs.SequenceLaws.{fired, run-nil, ψ-next, ψ-state, possible-test, pass-impossible, fails-impossible}
+use Rattle.obligations.proofs.SequenceLaws.{fired, run-nil, ψ-next, ψ-in-bytes, possible-test, pass-impossible, fails-impossible}
 use Rattle.obligations.proofs.BoolLaws.{true-or-false}
 use Rattle.sequences.proofs.WordLaws.{positions-many, activity-here, input-here, output-here}
 use Rattle.sequences.specs.Run.{largestTotal, ran}
@@ -103,10 +104,8 @@ module _ (ws : List ℕ) (n : ℕ) (p : WithinLimits ws n) where
   }
 
   module _ (i place : ℕ) (due : List ℕ) (pending peak : ℕ) (r : Running ws n i place due pending peak) where
-    pub running-state : State 254 due
-    running-state =
-        let l : length (take i (bindings ws)) ≡ i = length-take i (bindings ws) ∙ omega (arith, many, r .inside) in
-        state-le {m = length (take i (bindings ws))} (omega (arith, r .inside, p .few)) (subst (State (length (take i (bindings ws)))) (sym (r .state)) (ψ-state (take i (bindings ws))))
+    pub running-state : State mostDue due
+    running-state = subst (State mostDue) (sym (r .state)) (ψ-in-bytes (take i (bindings ws)) (omega (arith, length-take i (bindings ws), many, r .inside, p .few)))
 
     -- at the end
     module _ (h : n ≤ i) where

@@ -1,13 +1,14 @@
 -- The statements of specs/Statements.antt. Assumes nothing.
-use Prim.Native.Nat.{ℕ, _+_}
+use Prim.Native.Nat.{ℕ, _+_, _-_}
 use native.Mathlib.Omega.{arith}
 use mathlib.Core.Path.{_≡_, refl, sym, ap, subst, _∙_}
 use mathlib.Core.Bool.{true}
 use mathlib.Core.List.{List}
 use mathlib.Core.Logic.{_↔_, inr}
+use lib.ListN.{length}
 use Rattle.obligations.specs.State.{nothing}
 use Rattle.obligations.specs.Sequence.{bindings, at, WellFormed}
-use Rattle.obligations.proofs.SequenceLaws.{each-possible-from}
+use Rattle.obligations.proofs.SequenceLaws.{length-bindings, each-possible-from}
 use Rattle.net.specs.Refusals.{Says, accepted}
 use Rattle.net.specs.Sides.{netSize}
 use Rattle.net.specs.Orderly.{orderly}
@@ -20,9 +21,9 @@ use Rattle.sequences.specs.Gain.{gained, fits}
 use Rattle.sequences.specs.Learn.{learnRefusals, newSets, learnSays, learnGives}
 use Rattle.sequences.specs.Follow.{followGives}
 use Rattle.sequences.specs.Judge.{judgeRefusals}
-use Rattle.sequences.specs.Statements.{LearnListed, FollowListed, JudgeListed, NoneHoldsLearnable, LearnAccepts, FitsTestRight, LearnHolds, LearnValid, RefusedSame, FollowLearns, Judgeable, NoneHoldsJudgeable, JudgeAccepts, LargestIsPeak, PeakWithin}
+use Rattle.sequences.specs.Statements.{LearnListed, FollowListed, JudgeListed, NoneHoldsLearnable, LearnAccepts, FitsTestRight, LearnHolds, LearnValid, RefusedSame, FollowLearns, Judgeable, NoneHoldsJudgeable, JudgeAccepts, LargestIsPeak, PeakWithin, PeakBelow}
 use Rattle.sequences.proofs.AcceptLaws.{fits-formed, formed-possible, accepted-learnable, learnable-accepted}
-use Rattle.sequences.proofs.PeakLaws.{largest-exactly, peak-bounded}
+use Rattle.sequences.proofs.PeakLaws.{largest-exactly, peak-bounded, sizes-bounded}
 use Rattle.sequences.proofs.ValidLaws.{accepted-judgeable, judgeable-accepted}
 use Rattle.sequences.proofs.RefusalLaws.{learn-told, learn-listed, follow-listed, judge-told, judge-listed}
 use Rattle.sequences.proofs.GrowthLaws.{Activities, gained-orderly, gained-contained, gained-size, gained-on-side}
@@ -154,3 +155,11 @@ peak-within net ws peak e =
     let f = w .0 .valid .well-formed in
     let all = each-possible-from s (formed-possible (net .start) (net .end) s f) in
     (w .1 .highest, omega (arith, judged-peak net ws peak (w .0) .1 (w .1), peak-bounded s (f .activities-only) all))
+
+pub peak-below : PeakBelow
+peak-below net ws peak e =
+    let n = length (bindings ws) - 1 in
+    let l = judge-accepts net ws peak .0 e .0 in
+    let f = l .valid .well-formed in
+    let sizes = sizes-bounded (bindings ws) n (omega (arith, f .shape .two)) (f .output-empty-last-only n (omega (arith, f .shape .two)) .1 (omega (arith, f .shape .two))) in
+    omega (arith, sizes, peak-within net ws peak e .1, length-bindings ws (l .count) (l .whole), l .few)

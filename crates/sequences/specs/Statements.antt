@@ -6,7 +6,7 @@ use mathlib.Core.Bool.{true}
 use mathlib.Core.List.{List}
 use mathlib.Core.Logic.{_↔_}
 use lib.ListN.{length, getD}
-use Rattle.obligations.specs.Limits.{masks, positions}
+use Rattle.obligations.specs.Limits.{activities, masks, positions}
 use Rattle.obligations.specs.State.{nothing}
 use Rattle.obligations.specs.Sequence.{Binding, bindings, words, WellFormed}
 use Rattle.net.specs.Sentences.{NoneHolds, AsListed}
@@ -109,6 +109,10 @@ abbrev pub PeakWithin : Type 0
 PeakWithin =
     (net : Net) (ws : List ℕ) (peak : ℕ) → judgeSays net ws ≡ judgeMeans (judge.Judged peak)
     → ((i : ℕ) → i < length (bindings ws) → totalAfter (bindings ws) i ≤ peak) × (peak ≤ outputSizes (bindings ws))
+
+-- and it never reaches 32 for each of the most positions
+abbrev pub PeakBelow : Type 0
+PeakBelow = (net : Net) (ws : List ℕ) (peak : ℕ) → judgeSays net ws ≡ judgeMeans (judge.Judged peak) → peak < activities * positions
 
 -- each word is of 32 bits, as every word in a program is
 abbrev pub Words : List ℕ → Type 0

@@ -8,6 +8,7 @@ use mathlib.Core.Bool.{true}
 use mathlib.Core.List.{List}
 use mathlib.Core.Path.{_≡_, sym, ap, subst, _∙_}
 use native.Mathlib.Omega.{arith}
+use Rattle.obligations.specs.Limits.{mostDue}
 use Rattle.obligations.specs.State.{State, possible, added}
 use Rattle.obligations.proofs.StateLaws.{after-added, taken-state}
 use Rattle.obligations.proofs.StepLaws.{carried-less, carried-fits, carried, says-possible, says-not, gives-possible, gives-not}
@@ -33,7 +34,7 @@ take-requires c κs = (search needs, could (c .before))
 add-requires : tie.Need-add-requires
 add-requires c κs =
     let s = c .before .before .before .before .before .before in
-    (search needs, subst (State 254) (sym (c .before .take .ensures)) (taken-state 254 (now (s .args .due)) (s .args .a) (s .args .x) (s .pre .1 .0)))
+    (search needs, subst (State mostDue) (sym (c .before .take .ensures)) (taken-state mostDue (now (s .args .due)) (s .args .a) (s .args .x) (s .pre .1 .0)))
 
 size-requires : tie.Need-size-requires
 size-requires c κs = search needs

@@ -4,6 +4,7 @@ use denote.Ref.{now}
 use Prim.Native.Nat.{ℕ}
 use mathlib.Core.List.{List}
 use mathlib.Core.Path.{sym, ap, subst, _∙_}
+use Rattle.obligations.specs.Limits.{mostDue}
 use Rattle.obligations.specs.State.{State, untaken, before}
 use Rattle.obligations.proofs.StateLaws.{unadded-state}
 use Rattle.obligations.proofs.state.undo.Statement.{statement}
@@ -15,7 +16,7 @@ undo-add-requires c κs = search needs
 undo-take-requires : tie.Need-undo-take-requires
 undo-take-requires c κs =
     let s = c .before .before .before in
-    (search needs, subst (State 254) (sym (c .before .undo-add .ensures)) (unadded-state 254 (now (s .args .due)) (s .args .a) (s .args .y) (s .pre .1 .0)))
+    (search needs, subst (State mostDue) (sym (c .before .undo-add .ensures)) (unadded-state mostDue (now (s .args .due)) (s .args .a) (s .args .y) (s .pre .1 .0)))
 
 returns : tie.Need-returns
 unfolding before
