@@ -103,7 +103,7 @@ impl Net {
 /// The pending obligations. There is one state for the whole search, and going back undoes a step
 /// in place, so that nothing is copied.
 struct Obligations {
-    /// How often q is still due because of p, at `[p][q]`. A trace has at most 64 positions and
+    /// How often q is still due because of p, at `[p][q]`. A trace has at most 96 positions and
     /// each of them adds at most one to a pair, so that a byte is enough.
     counts: [[u8; ACTIVITIES]; ACTIVITIES],
     /// For each q the set of all p whose count is not zero. It turns the question whether an input

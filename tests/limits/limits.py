@@ -1,8 +1,8 @@
-"""The limits of paper 01, each named once. Whatever follows from one is computed from its name."""
+"""The limits of papers 01 and 02, each named once. Whatever follows from one is computed from its name."""
 
 ACTIVITIES = 32  # Activities are numbers 0 to 31; a set of them is a mask of so many bits.
 SETS = 16  # The most sets on a side of an activity.
-POSITIONS = 64  # The most positions of a sequence or trace; the words that a row's buffer needs.
+POSITIONS = 96  # The most positions of a sequence or trace; the words that a row's buffer needs.
 NET_BYTES = 131_072
 LOG_BYTES = 524_288
 LOG_ROWS = 1_000

@@ -19,6 +19,7 @@ def write():
     sessions()
     entries()
     entries_of_a_row()
+    every_number_of_entries()
     faults_beside_too_many_entries()
 
 
@@ -176,6 +177,17 @@ def entries_of_a_row():
     row(2, "refused 3 3")
     say(f"readrow 2 {most + 1}", "refused 3 3")
     row(3, "refused 3 3")
+
+
+def every_number_of_entries():
+    traces = [repeated(f"{LAST}", entries) for entries in range(POSITIONS + 2)]
+
+    note(f"A log whose rows have 0, 1 and so on to {POSITIONS + 1} entries: all are read but the "
+         "last.")
+    text(log_file(*(f"8,{trace}" for trace in traces)))
+    for entries, trace in enumerate(traces[:-1]):
+        row(entries + 1, f"row 8 {entries} {trace}".rstrip())
+    row(POSITIONS + 2, f"refused 3 {POSITIONS + 3}")
 
 
 def faults_beside_too_many_entries():

@@ -12,6 +12,8 @@ def write():
     positions_replayed()
     words_of_a_sequence()
     every_number_of_words()
+    every_number_of_entries()
+    every_number_of_positions()
     buffer_of_replay()
     buffers_that_stay()
     budgets()
@@ -124,6 +126,29 @@ def every_number_of_words():
     for call in "judge", "learn":
         for words in 510, 511, 512, 513, most - 2, most - 1, most:
             refused(3, 0, f"{call} 0{' 0' * words}")
+    same(0, 1)
+
+
+def every_number_of_entries():
+    note(f"Every number of entries from 1 to {POSITIONS + 1}: all are 0 but the last, which is no "
+         f"activity. 4 at that position, and 3 if it is position {POSITIONS + 1}.")
+    for entries in range(1, POSITIONS + 2):
+        trace = f"{'0 ' * (entries - 1)}{NO_ACTIVITY}"
+        fault = (4, entries) if entries <= POSITIONS else (3, 0)
+        refused(*fault, f"follow 0 {trace}", f"replay 0 100 {BUFFER_WORDS} {trace}")
+    same(0, 1)
+
+
+def every_number_of_positions():
+    note(f"Every number of positions from 5 to {POSITIONS} is learned, followed, judged and "
+         "replayed; the sets are the same for all.")
+    for positions in range(5, POSITIONS + 1):
+        say(f"learn 0 {loop(positions)}", "ok 0")
+        say(f"follow 0 {loop_trace(positions)}", "ok 0")
+        say(f"peak 0 {loop(positions)}", "ok 1")
+        trials = loop_trials(positions)
+        say(f"replay 0 {trials} {3 * positions} {loop_trace(positions)}",
+            f"found {trials} {loop(positions)}")
     same(0, 1)
 
 

@@ -28,6 +28,7 @@ def write():
     counts_above_one()
     as_many_positions_as_can_be()
     as_high_as_no_byte_holds()
+    higher_than_there_are_pairs()
 
 
 def trips():
@@ -147,3 +148,35 @@ def as_high_as_no_byte_holds():
     note(f"Without the second 17, the end isn't possible at position {2 * number + 1}.")
     refused(10, 2 * number + 1,
             f"peak 0 {all_twice(activity for activity in between if activity != 17)}")
+
+
+def all_and_some_again(some):
+    """As all_twice, with some activities twice more: between the rounds they make each other due
+    again, and behind them they take that. Only the next one in their circle isn't made due between
+    the rounds, but in the second."""
+    *others, last = between = range(1, LAST)
+    all_of_them, these = mask(*between), mask(*some)
+    following = dict(zip(some, [*some[1:], some[0]]))
+    first_round = [f"{a} 1 {all_of_them}" for a in between]
+    again = [f"{a} {mask(last)} {these & ~mask(following[a])}" for a in some]
+    second_round = [f"{a} {mask(*others)} {mask(following[a])}" if a in following
+                    else f"{a} {all_of_them} {mask(LAST)}" for a in between]
+    at_last = [f"{a} {these} {mask(LAST)}" for a in some]
+    rounds = " ".join(first_round + again + second_round + at_last)
+    return f"0 0 {all_of_them} {rounds} {LAST} {all_of_them} 0"
+
+
+def higher_than_there_are_pairs():
+    number = len(range(1, LAST))
+    again = (POSITIONS - 2 - 2 * number) // 2
+    rest = number - again
+    peak = number**2 + again * (again - 2)
+    lower = peak - again * (number - 2)
+    low = lower - rest * (number - 1)
+
+    note(f"{2 + 2 * (number + again)} positions: the {again} activities from 1 to {again} once more "
+         f"after the {number}. Totals: {number}, then {number - 1} more at each of {number}, which "
+         f"is {number**2}, {again - 2} more at each of {again}, which is {peak}, {number - 2} fewer "
+         f"at each of {again}, which is {lower}, {number - 1} fewer at each of {rest}, which is "
+         f"{low}, {again - 1} fewer at each of {again}, which is {number}, and 0.")
+    learned_peak(all_and_some_again(range(1, again + 1)), 2 + 8 * again + 4 * rest, peak)

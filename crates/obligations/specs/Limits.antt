@@ -13,9 +13,9 @@ masks = 2 ^ 32
 abbrev pub pairs : ℕ
 pairs = 1024
 
--- a sequence or a trace has at most this many positions
+-- a sequence or a trace has at most this many positions (02, (ii))
 abbrev pub positions : ℕ
-positions = 64
+positions = 96
 
 -- the most that a count may be before a step: a byte, which the state keeps for each, then holds one more
 abbrev pub mostDue : ℕ

@@ -13,7 +13,7 @@ pub const ACTIVITIES: u32 = 32;
 pub const PAIRS: usize = (ACTIVITIES * ACTIVITIES) as usize;
 
 // A sequence or a trace has at most this many positions.
-pub const POSITIONS: usize = 64;
+pub const POSITIONS: usize = 96;
 
 // The words of the longest sequence, three a position.
 pub const SEQUENCE_WORDS: usize = 3 * POSITIONS;

@@ -1,8 +1,8 @@
 // Prints the reports of numbered cases, one after the other. Case 7 is the files 07.net and 07.log in the current folder.
-// What is printed is compared: for cases 1 to 30 with what an independent implementation of paper 01 says of them, for the
-// others, made by tests/cases/make, with what follows from the paper by hand.
+// What is printed is compared: for cases 1 to 40 with what an independent implementation of the papers says of them, for the
+// others, made by tests/cases/make, with what follows from the papers by hand.
 
-const CASES: u8 = 48;
+const CASES: u8 = 60;
 
 // Prints the report of one case.
 fn print_case(case: u8) {
