@@ -10,7 +10,7 @@ use Rattle.obligations.specs.Tests.{number, firstFrom, firstFailing}
 use Rattle.obligations.specs.Sets.{bit, member, single, union, keep, membersFrom, members, size}
 use Rattle.obligations.specs.State.{placesOf, inputs, outputs, allDue, lowered, raised, possible, taken, added, after, allZero, total}
 use Rattle.obligations.specs.Trace.{firstNoActivity, endsAgree, shaped}
-use Rattle.obligations.specs.Sequence.{bindings, run, possibleAt, firstImpossible}
+use Rattle.obligations.specs.Sequence.{bindings, words, run, possibleAt, firstImpossible}
 use Rattle.obligations.specs.Examples.{fig4, trip}
 use Rattle.net.specs.Lists.{allBelow, listed, allListed, ascendsAbove, zeros, insert}
 use Rattle.net.specs.Sides.{setsOn}
@@ -39,7 +39,7 @@ use Rattle.search.specs.Trace.{hasRoom}
 use Rattle.search.specs.Replay.{endSays, replayed, withinBudget, checkedSays, replayTests, replaySays}
 use Rattle.sequences.proofs.Theorems.{largest-is-peak}
 use Rattle.promises.specs.Calls.{Call, learn, follow, grown, answers}
-use Rattle.promises.specs.Marked.{Marked, MarkedPeak}
+use Rattle.promises.specs.Marked.{Marked, MarkedPeak, session, detour, MarkedLongest}
 
 -- the marked examples
 pub marked : Marked
@@ -50,6 +50,12 @@ marked = (refl, refl, refl, refl, refl, refl, refl, refl, refl, refl, refl, refl
 pub marked-peak : MarkedPeak
 unfolding judgeSays judgePositions runSays firstMissing onSideAt withinLimits wordsWithin bindings firstNoActivity firstFailing firstFrom shaped endsAgree firstImpossible possibleAt possible run after taken added inputs outputs placesOf members membersFrom keep allDue lowered raised allZero total largestTotal outputSizes size listed orderly sized endsOk sidesOk blockOk allBelow ascendsAbove zeros lowestMember lost outside successors predecessors inNet onSides reach rounds oneRound unionFrom rows rowsFrom arc names named those thoseBelow withIf number anyBelow union single member bit travel trip
 marked-peak = (largest-is-peak (bindings trip) 4 (lit< tt) .0 refl, refl, refl)
+
+-- the longest session is followed and replayed, one that is longer is refused by 3, and a set used at the last step but one decides
+-- a comparison
+pub marked-longest : MarkedLongest
+unfolding freshGives judgeSays learnSays learnGives withinLimits wordsWithin bindings words firstNoActivity firstFailing firstFrom shaped endsAgree possible after taken added inputs outputs placesOf members membersFrom keep allDue lowered raised allZero fits takesBinding takesPut withBinding withPut gained sideSays misplaced listed insert grows putMasks putLengths total freshNet orderly sized endsOk sidesOk blockOk allBelow ascendsAbove zeros followSays followGives traceWithinLimits followPositions followedFrom trialsOf later orElse behind trialIf trial tryOutputs tryInputs atEnd searchFrom searchOf endSays replayed withinBudget checkedSays hasRoom replayTests replaySays lowestMember lost outside successors predecessors inNet onSides reach rounds oneRound unionFrom rows rowsFrom arc names named those thoseBelow withIf number anyBelow union single member bit containedSays contained sidesWithin allListed session detour grown answers
+marked-longest = (refl, refl, refl, refl, refl, refl)
 
 -- F is what three sequences give
 F-grown :
