@@ -168,7 +168,7 @@ def all_and_some_again(some):
 
 def higher_than_there_are_pairs():
     number = len(range(1, LAST))
-    again = (POSITIONS - 2 - 2 * number) // 2
+    again = min(number, (POSITIONS - 2 - 2 * number) // 2)
     rest = number - again
     peak = number**2 + again * (again - 2)
     lower = peak - again * (number - 2)
