@@ -51,7 +51,7 @@ pub marked-peak : MarkedPeak
 unfolding judgeSays judgePositions runSays firstMissing onSideAt withinLimits wordsWithin bindings firstNoActivity firstFailing firstFrom shaped endsAgree firstImpossible possibleAt possible run after taken added inputs outputs placesOf members membersFrom keep allDue lowered raised allZero total largestTotal outputSizes size listed orderly sized endsOk sidesOk blockOk allBelow ascendsAbove zeros lowestMember lost outside successors predecessors inNet onSides reach rounds oneRound unionFrom rows rowsFrom arc names named those thoseBelow withIf number anyBelow union single member bit travel trip
 marked-peak = (largest-is-peak (bindings trip) 4 (lit< tt) .0 refl, refl, refl)
 
--- the longest session is followed and replayed, one that is longer is refused by 3, and a set used at the last step but one decides
+-- the longest session is followed and replayed, one that is longer is refused by 3, and sets of the last three positions decide
 -- a comparison
 pub marked-longest : MarkedLongest
 unfolding freshGives judgeSays learnSays learnGives withinLimits wordsWithin bindings words firstNoActivity firstFailing firstFrom shaped endsAgree possible after taken added inputs outputs placesOf members membersFrom keep allDue lowered raised allZero fits takesBinding takesPut withBinding withPut gained sideSays misplaced listed insert grows putMasks putLengths total freshNet orderly sized endsOk sidesOk blockOk allBelow ascendsAbove zeros followSays followGives traceWithinLimits followPositions followedFrom trialsOf later orElse behind trialIf trial tryOutputs tryInputs atEnd searchFrom searchOf endSays replayed withinBudget checkedSays hasRoom replayTests replaySays lowestMember lost outside successors predecessors inNet onSides reach rounds oneRound unionFrom rows rowsFrom arc names named those thoseBelow withIf number anyBelow union single member bit containedSays contained sidesWithin allListed session detour grown answers
