@@ -27,6 +27,13 @@ def loop_trace(entries):
     return f"0 {repeated('1', entries - 2)} 3"
 
 
+def loop_trials(entries):
+    """The trials of a replay of loop_trace on the net of loop: 1 at the start and at the first 1,
+    and 3 at each 1 behind it, two pairs that aren't possible and one that is. At the last of these
+    the end then fails once, and a fourth pair and the end come to it."""
+    return 1 + 1 + 3 * (entries - 4) + 6
+
+
 def fillers(number, lowest=16):
     """So many sets to fill a side with, which no sequence has whose sets are below the lowest."""
     return range(lowest, lowest + number)

@@ -1,4 +1,4 @@
-"""The limits of papers 01 and 02, each named once. Whatever follows from one is computed from its name."""
+"""The papers' limits, each named once. Whatever follows from one is computed from its name."""
 
 ACTIVITIES = 32  # Activities are numbers 0 to 31; a set of them is a mask of so many bits.
 SETS = 16  # The most sets on a side of an activity.

@@ -23,7 +23,7 @@ def passed_over(*lines):
 
 
 def say(command, answer):
-    """A command, and the answer that the paper gives it."""
+    """A command, and the answer that the papers give it."""
     _script.append(command + "\n")
     _answers.append(answer + "\n")
 

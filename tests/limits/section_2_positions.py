@@ -1,6 +1,6 @@
 """The part of section 2 on sequences and traces: their length, and what a replay is given."""
 
-from bindings import loop, loop_trace
+from bindings import loop, loop_trace, loop_trials
 from calls import OUT, disorder, put_new, read_f, same
 from limits import BUFFER_WORDS, LINE_NUMBERS, MAX_64, NO_ACTIVITY, POSITIONS
 from script import note, ok, refused, say
@@ -64,11 +64,6 @@ def positions_followed():
     ok("fresh 2 0 3")
     say(f"follow 2 {loop_trace(most)}", "ok 6")
     same(2, 1)
-
-
-def loop_trials(entries):
-    """The trials of loop_trace on the net of loop, which the first note below counts."""
-    return 1 + 1 + 3 * (entries - 4) + 6
 
 
 def positions_replayed():

@@ -174,9 +174,9 @@ def higher_than_there_are_pairs():
     lower = peak - again * (number - 2)
     low = lower - rest * (number - 1)
 
-    note(f"{2 + 2 * (number + again)} positions: the {again} activities from 1 to {again} once more "
-         f"after the {number}. Totals: {number}, then {number - 1} more at each of {number}, which "
-         f"is {number**2}, {again - 2} more at each of {again}, which is {peak}, {number - 2} fewer "
-         f"at each of {again}, which is {lower}, {number - 1} fewer at each of {rest}, which is "
-         f"{low}, {again - 1} fewer at each of {again}, which is {number}, and 0.")
+    note(f"{2 + 2 * (number + again)} positions: the {again} activities from 1 to {again} once "
+         f"more after the {number}. Totals: {number}, then {number - 1} more at each of {number}, "
+         f"which is {number**2}, {again - 2} more at each of {again}, which is {peak}, "
+         f"{number - 2} fewer at each of {again}, which is {lower}, {number - 1} fewer at each of "
+         f"{rest}, which is {low}, {again - 1} fewer at each of {again}, which is {number}, and 0.")
     learned_peak(all_and_some_again(range(1, again + 1)), 2 + 8 * again + 4 * rest, peak)

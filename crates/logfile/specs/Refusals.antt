@@ -42,7 +42,8 @@ TraceWritten field = (ks : List ℕ) × (field ≡ traceText ks) × ((k : ℕ) �
 
 -- ---- the sentences
 
--- 3: the file exceeds its bytes, the row asked for is 0, or the buffer is shorter than the longest trace
+-- 3: the file exceeds its bytes, the row asked for is 0, or the buffer is shorter than row reading needs, a word for each of
+-- the most positions
 abbrev pub LogOutsideLimits : List ℕ → ℕ → ℕ → Type 0
 LogOutsideLimits text r room = (logBytes < length text) ⊎ ((r ≡ 0) ⊎ (room < positions))
 

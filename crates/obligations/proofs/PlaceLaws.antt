@@ -13,9 +13,8 @@ use lib.Count.{trailingZeros}
 use lib.Dec.{leb, lit<}
 use lib.ListN.{length, getD, set, length-set, length-map, List·getD-eq-default}
 use lib.Pow.{pow-pos}
-use Rattle.obligations.specs.Limits.{mostDue}
 use Rattle.obligations.specs.Sets.{bit, single, keep, membersFrom, members, size}
-use Rattle.obligations.specs.State.{placesOf, allDue, lowered, raised, State}
+use Rattle.obligations.specs.State.{placesOf, allDue, lowered, raised, State, mostDue}
 use Rattle.obligations.proofs.BoolLaws.{and-left, and-right, and-both}
 use Rattle.obligations.proofs.BitLaws.{bit-lt, bit-zero, bit-suc, same, same-refl, same-cases, same-ne}
 use Rattle.obligations.proofs.SetLaws.{lt-or-le}

@@ -9,9 +9,9 @@ use native.Mathlib.Numerals.{add-one}
 use native.Mathlib.Omega.{arith}
 use lib.ListN.{length, getD, take}
 use lib.Seq.{take-suc}
-use Rattle.obligations.specs.Limits.{positions, mostDue}
+use Rattle.obligations.specs.Limits.{positions}
 use Rattle.obligations.specs.Tests.{firstFailing}
-use Rattle.obligations.specs.State.{nothing, possible, after, allZero, State}
+use Rattle.obligations.specs.State.{nothing, possible, after, allZero, State, mostDue}
 use Rattle.obligations.specs.Sequence.{Binding, bindings, words, at, run, ψ, Possible, NothingLeft, possibleAt, firstImpossible, completes}
 use Rattle.obligations.proofs.BoolLaws.{and-left, and-right, and-both, true-or-false, false-not-true}
 use Rattle.obligations.proofs.StateLaws.{after-state, nothing-state, state-le}

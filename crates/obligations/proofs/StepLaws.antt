@@ -7,9 +7,8 @@ use mathlib.Core.List.{List, [], _∷_}
 use mathlib.Core.Logic.{⊎-elim}
 use native.Mathlib.Omega.{arith}
 use lib.ListN.{length, getD}
-use Rattle.obligations.specs.Limits.{mostDue}
 use Rattle.obligations.specs.Sets.{size}
-use Rattle.obligations.specs.State.{possible, after, total, stepSays, stepGives, State}
+use Rattle.obligations.specs.State.{possible, after, total, stepSays, stepGives, State, mostDue}
 use Rattle.obligations.specs.Sequence.{Binding, Possible}
 use Rattle.obligations.specs.Statements.{StepSaid}
 use Rattle.obligations.specs.declared.state.Stepped.the-variants.{Total, Impossible}

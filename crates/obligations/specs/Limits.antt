@@ -16,7 +16,3 @@ pairs = 1024
 -- a sequence or a trace has at most this many positions (02, (ii))
 abbrev pub positions : ℕ
 positions = 96
-
--- the most that a count may be before a step: a byte, which the state keeps for each, then holds one more
-abbrev pub mostDue : ℕ
-mostDue = 254

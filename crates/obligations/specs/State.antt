@@ -98,3 +98,7 @@ stepGives d a x y = cond (possible d a x) (after d a x y) d
 pub record State (n : ℕ) (d : List ℕ) : Type 0 where
   pub long : length d ≡ pairs
   pub small : (i : ℕ) → getD d i 0 ≤ n
+
+-- of the code alone: the most that a count may be before a step, so that a byte holds one more
+abbrev pub mostDue : ℕ
+mostDue = 254

@@ -7,10 +7,10 @@ use mathlib.Core.List.{List, List·Memᴰ}
 use mathlib.Core.Logic.{_↔_}
 use lib.Dec.{eqb}
 use lib.ListN.{length, take}
-use Rattle.obligations.specs.Limits.{activities, pairs, positions, mostDue}
+use Rattle.obligations.specs.Limits.{activities, pairs, positions}
 use Rattle.obligations.specs.Tests.{indicator, number}
 use Rattle.obligations.specs.Sets.{member, members, size}
-use Rattle.obligations.specs.State.{count, nothing, possible, after, before, allZero, total, stepSays, stepGives, State}
+use Rattle.obligations.specs.State.{count, nothing, possible, after, before, allZero, total, stepSays, stepGives, State, mostDue}
 use Rattle.obligations.specs.declared.state.Stepped.the-variants.{Total, Impossible}
 use Rattle.obligations.specs.Trace.{shaped, Shaped}
 use Rattle.obligations.specs.Sequence.{Binding, bindings, words, at, ψ, Possible, NothingLeft, firstImpossible, completes}

@@ -12,7 +12,7 @@ pub const ACTIVITIES: u32 = 32;
 // The pairs (p, q) of activities: how many counts a state has.
 pub const PAIRS: usize = (ACTIVITIES * ACTIVITIES) as usize;
 
-// A sequence or a trace has at most this many positions.
+// A sequence or a trace has at most this many positions (02, (ii)).
 pub const POSITIONS: usize = 96;
 
 // The words of the longest sequence, three a position.

@@ -12,8 +12,8 @@ ghost use mathlib.Core.Path.{_≡_};
 ghost use mathlib.Core.Bool.{true};
 ghost use Prim.Native.Nat.{_≤_, _<_, _+_, _-_, _*_};
 ghost use lib.ListN.{length, take, drop};
-ghost use Rattle.obligations.specs.Limits.{activities, pairs, mostDue};
-ghost use Rattle.obligations.specs.State.{placesOf, allDue, lowered, raised, possible, taken, added, covers, unadded, untaken, before, allZero, total, State, stepSays, stepGives};
+ghost use Rattle.obligations.specs.Limits.{activities, pairs};
+ghost use Rattle.obligations.specs.State.{placesOf, allDue, lowered, raised, possible, taken, added, covers, unadded, untaken, before, allZero, total, State, mostDue, stepSays, stepGives};
 
 // The test for an all-zero state goes by parts of the counts: how many there are, and how long each is.
 const PARTS: usize = 4;

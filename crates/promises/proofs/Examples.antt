@@ -55,7 +55,7 @@ marked-peak = (largest-is-peak (bindings trip) 4 (lit< tt) .0 refl, refl, refl)
 -- a comparison
 pub marked-longest : MarkedLongest
 unfolding freshGives judgeSays learnSays learnGives withinLimits wordsWithin bindings words firstNoActivity firstFailing firstFrom shaped endsAgree possible after taken added inputs outputs placesOf members membersFrom keep allDue lowered raised allZero fits takesBinding takesPut withBinding withPut gained sideSays misplaced listed insert grows putMasks putLengths total freshNet orderly sized endsOk sidesOk blockOk allBelow ascendsAbove zeros followSays followGives traceWithinLimits followPositions followedFrom trialsOf later orElse behind trialIf trial tryOutputs tryInputs atEnd searchFrom searchOf endSays replayed withinBudget checkedSays hasRoom replayTests replaySays lowestMember lost outside successors predecessors inNet onSides reach rounds oneRound unionFrom rows rowsFrom arc names named those thoseBelow withIf number anyBelow union single member bit containedSays contained sidesWithin allListed session detour grown answers
-marked-longest = (refl, refl, refl, refl, refl, refl)
+marked-longest = (refl, refl, refl, refl, refl, refl, refl)
 
 -- F is what three sequences give
 F-grown :

@@ -46,7 +46,8 @@ MarkedPeak = Peak (bindings trip) 4 × (judgeSays travel trip ≡ judgeMeans (ju
 
 -- 02, (ii): "A session of 96 is replayed and one of 97 is refused as before by 3. The comparison of two nets covers the longer
 -- sequences too." A session goes from 0 to 3 by way of 1, again and again, and a detour by way of 2 at last. Trials: one at the
--- start and at the first 1, three at each 1 behind it, and three more at the last one and the end.
+-- start and at the first 1, three at each 1 behind it, and three more at the last one and the end. The paper's number is the first
+-- equation, and the others are said by its name.
 unfoldable pub session : ℕ → List ℕ
 session n = 0 ∷ (replicate (n - 2) 1 ++ (3 ∷ []))
 
@@ -59,7 +60,8 @@ MarkedLongest =
     let longer = session (positions + 1) in
     let net = grown (freshGives 0 3) (follow longest ∷ []) in
     let other = grown (freshGives 0 3) (follow longest ∷ follow (detour positions) ∷ []) in
-    (answers (freshGives 0 3) (follow longest ∷ follow longer ∷ learn (words (followed longer)) ∷ []) ≡ map learnMeans (learned.Learned 6 ∷ learned.Refused 3 0 ∷ learned.Refused 3 0 ∷ []))
+    (positions ≡ 96)
+    × (answers (freshGives 0 3) (follow longest ∷ follow longer ∷ learn (words (followed longer)) ∷ []) ≡ map learnMeans (learned.Learned 6 ∷ learned.Refused 3 0 ∷ learned.Refused 3 0 ∷ []))
     × (replaySays net longest 1000000 (3 * positions) ≡ replayMeans (Found (3 * positions - 4)))
     × (replaySays net longer 1000000 (3 * (positions + 1)) ≡ replayMeans (Refused 3 0))
     × (judgeSays net (words (followed longer)) ≡ judgeMeans (judged.Refused 3 0))

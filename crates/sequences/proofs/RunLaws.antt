@@ -12,8 +12,7 @@ use lib.Dec.{eqb}
 use lib.ListN.{length, getD, take, drop, length-take}
 use lib.Seq.{take-all, drop-cons}
 use lib.ListN.{drop-of-length-le}
-use Rattle.obligations.specs.Limits.{mostDue}
-use Rattle.obligations.specs.State.{nothing, possible, after, allZero, total, State, stepSays, stepGives}
+use Rattle.obligations.specs.State.{nothing, possible, after, allZero, total, State, mostDue, stepSays, stepGives}
 use Rattle.obligations.specs.Sequence.{Binding, bindings, at, ψ, possibleAt, firstImpossible}
 use Rattle.obligations.specs.declared.state.Stepped.the-variants as step
 use Rattle.obligations.proofs.StateLaws.{nothing-zero}

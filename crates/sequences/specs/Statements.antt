@@ -110,7 +110,7 @@ PeakWithin =
     (net : Net) (ws : List ℕ) (peak : ℕ) → judgeSays net ws ≡ judgeMeans (judge.Judged peak)
     → ((i : ℕ) → i < length (bindings ws) → totalAfter (bindings ws) i ≤ peak) × (peak ≤ outputSizes (bindings ws))
 
--- and it never reaches 32 for each of the most positions
+-- and it is below 32 times the limit of positions
 abbrev pub PeakBelow : Type 0
 PeakBelow = (net : Net) (ws : List ℕ) (peak : ℕ) → judgeSays net ws ≡ judgeMeans (judge.Judged peak) → peak < activities * positions
 

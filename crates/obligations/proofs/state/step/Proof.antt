@@ -8,8 +8,7 @@ use mathlib.Core.Bool.{true}
 use mathlib.Core.List.{List}
 use mathlib.Core.Path.{_≡_, sym, ap, subst, _∙_}
 use native.Mathlib.Omega.{arith}
-use Rattle.obligations.specs.Limits.{mostDue}
-use Rattle.obligations.specs.State.{State, possible, added}
+use Rattle.obligations.specs.State.{State, mostDue, possible, added}
 use Rattle.obligations.proofs.StateLaws.{after-added, taken-state}
 use Rattle.obligations.proofs.StepLaws.{carried-less, carried-fits, carried, says-possible, says-not, gives-possible, gives-not}
 use Rattle.obligations.specs.declared.state.Stepped.the-variants.{Total}

@@ -4,8 +4,7 @@ use denote.Ref.{now}
 use Prim.Native.Nat.{ℕ}
 use mathlib.Core.List.{List}
 use mathlib.Core.Path.{sym, ap, subst, _∙_}
-use Rattle.obligations.specs.Limits.{mostDue}
-use Rattle.obligations.specs.State.{State, untaken, before}
+use Rattle.obligations.specs.State.{State, mostDue, untaken, before}
 use Rattle.obligations.proofs.StateLaws.{unadded-state}
 use Rattle.obligations.proofs.state.undo.Statement.{statement}
 use Rattle.obligations.proofs.state.undo.Tie as tie
