@@ -2,12 +2,22 @@
 
 from bindings import fillers
 from calls import OUT, disorder, put_new, same
+from files import net_file
 from limits import ALL, LAST, MAX_32, NO_ACTIVITY, SETS
 from record import in_length, out_length
-from script import note, ok, refused, say
+from script import note, ok, refused, say, shown
 from wording import spelled_nth
 
 TOO_MANY = spelled_nth(SETS + 1)
+
+# F with an output set of 1 that names 2, in the writer's order.
+UNANSWERED_FILE = net_file(
+    0, 3,
+    "out,0,1", "out,0,2", "out,0,1 2",
+    "in,1,0", "out,1,2", "out,1,3",
+    "in,2,0", "out,2,3",
+    "in,3,1", "in,3,2", "in,3,1 2",
+)
 
 
 def write():
@@ -17,6 +27,7 @@ def write():
     of_put_on_a_full_side()
     of_containment()
     of_net_check()
+    of_calls_that_pass_over_partners()
 
 
 def of_fresh():
@@ -135,3 +146,34 @@ def of_net_check():
     refused(6, 9, "check 0")
     put_new(0, OUT, 1, 32)
     refused(6, 5, "check 0")
+
+    note("Net check, 19: the lowest activity that names one which never names it back; 6 and 2 "
+         "before it. 2 names 1 on its output side, then 1 names 2 too, and then 9 besides.")
+    ok("copy 0 1")
+    put_new(0, OUT, 2, 2)
+    refused(19, 2, "check 0")
+    put_new(0, OUT, 1, 4)
+    refused(19, 1, "check 0")
+    put_new(0, OUT, 1, 512)
+    refused(6, 9, "check 0")
+    disorder(0)
+    refused(2, 0, "check 0")
+
+
+def of_calls_that_pass_over_partners():
+    note("Fresh, put, containment, learn, follow and the file's calls don't check the net: none "
+         "gives 19. 1 names 2, which never names it back.")
+    ok("copy 0 1")
+    put_new(0, OUT, 1, 4)
+    say("contained 1 0", "ok 1")
+    say("contained 0 1", "ok 0")
+    say("learn 0 0 0 2 1 1 8 3 2 0", "ok 0")
+    say("follow 0 0 1 3", "ok 0")
+    say("follow 0 0 2 3", "ok 0")
+    refused(19, 1, "check 0")
+    ok("copy 2 0")
+    say("writenet 0 200", f"ok {len(UNANSWERED_FILE)}")
+    shown(UNANSWERED_FILE)
+    ok("readnet 0")
+    same(0, 2)
+    refused(19, 1, "check 0")

@@ -1,6 +1,6 @@
 """The part of section 3 on judge, learn, follow and replay.
 
-A lower number comes first, wherever in the sequence or trace it holds.
+A lower number comes first, wherever in the sequence or trace it holds; 19 comes directly after 6.
 """
 
 from bindings import fillers, loop, loop_trace, repeated
@@ -14,6 +14,7 @@ def write():
     of_judge_on_too_many_positions()
     of_judge_on_activities()
     of_judge_on_walks()
+    of_judge_on_partners()
     of_judge_on_positions()
     of_learn()
     of_learn_on_too_many_positions()
@@ -25,6 +26,7 @@ def write():
     of_follow()
     of_replay()
     of_replay_on_walks()
+    of_replay_on_partners()
 
 
 # Sequences for F: valid, and each with one fault.
@@ -108,6 +110,40 @@ def of_judge_on_walks():
     put_new(0, OUT, 1, 512)
     refused(6, 9, f"judge 0 {VALID}", "judge 0 1 1 8 3 2 0", f"judge 0 {UNKNOWN_SET}",
             f"judge 0 {NOT_DUE}", f"judge 0 {LEFT_DUE}")
+
+
+def put_without_partner():
+    """Register 0 becomes F, which register 1 holds, with 2 named by 1, which 2 never names back."""
+    ok("copy 0 1")
+    put_new(0, OUT, 1, 4)
+
+
+def of_judge_on_partners():
+    note("Judge, 19: a name isn't answered; 19 before 7, 8, 10 and 11. The first sequence is "
+         "valid, F would refuse the others so.")
+    put_without_partner()
+    refused(19, 1, f"judge 0 {VALID}", f"peak 0 {VALID}", "judge 0", "judge 0 0 0 2",
+            "judge 0 1 1 8 3 2 0", "judge 0 5 5 5 5 5 5", f"judge 0 {UNKNOWN_SET}",
+            f"judge 0 {NOT_DUE}", f"judge 0 {LEFT_DUE}")
+
+    note("Judge, 3 and 4 before 19.")
+    refused(3, 0, "judge 0 0 0 2 1", f"judge 0 {too_many_positions('0 0 2')}")
+    refused(4, 2, f"judge 0 0 0 2 {NO_ACTIVITY} 1 8 3 2 0")
+    refused(4, 1, f"judge 0 {NO_ACTIVITY} 0 0")
+
+    note("Judge, 6 and 2 before 19: 9 is on no walk, and then the record isn't orderly either.")
+    put_new(0, OUT, 1, 512)
+    refused(6, 9, f"judge 0 {VALID}", "judge 0")
+    disorder(0)
+    refused(2, 0, f"judge 0 {VALID}", "judge 0")
+
+    note("Judge, 19: the lowest naming activity, here by an input set; with its partner the "
+         "sequence is judged again.")
+    ok("copy 0 1")
+    put_new(0, IN, 2, 2)
+    refused(19, 2, f"judge 0 {VALID}")
+    put_new(0, OUT, 1, 4)
+    ok(f"judge 0 {VALID}")
 
 
 def of_judge_on_positions():
@@ -324,3 +360,30 @@ def of_replay_on_walks():
     note("Replay, 2 before 6: 11 is on no walk, but the record isn't orderly either.")
     disorder(0)
     refused(2, 0, "replay 0 100 9 0 1 3")
+
+
+def of_replay_on_partners():
+    note("Replay, 19: a name isn't answered, and this comes before found, none and spent.")
+    put_without_partner()
+    refused(19, 1, "replay 0 100 9 0 1 3", "replay 0 100 0", "replay 0 100 3 0",
+            "replay 0 100 9 1 1 1", "replay 0 0 9 0 1 3", "replay 0 100 6 0 3")
+
+    note("Replay, 3 and 4 before 19.")
+    refused(3, 0, "replay 0 100 8 0 1 3",
+            f"replay 0 100 {BUFFER_WORDS} {repeated('0', POSITIONS + 1)}")
+    refused(4, 2, f"replay 0 100 9 0 {NO_ACTIVITY} 3")
+
+    note("Replay, 6 and 2 before 19.")
+    put_new(0, IN, 2, 2048)
+    refused(6, 11, "replay 0 100 9 0 1 3", "replay 0 100 0")
+    disorder(0)
+    refused(2, 0, "replay 0 100 9 0 1 3", "replay 0 100 0")
+
+    note("Replay, 19: the lowest naming activity, here by an input set; with its partner the trace "
+         "is searched again. After Y 2 at the start both input sets of 2 fail; after Y 4 its first "
+         "one does, and then the second one of 3.")
+    ok("copy 0 1")
+    put_new(0, IN, 2, 2)
+    refused(19, 2, "replay 0 100 9 0 2 3")
+    put_new(0, OUT, 1, 4)
+    say("replay 0 100 9 0 2 3", "found 7 0 0 4 2 1 8 3 4 0")

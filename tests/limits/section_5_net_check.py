@@ -1,25 +1,25 @@
-"""Section 5: which pairs are arcs, and which activities are on a walk from start to end."""
+"""Section 5: which pairs are arcs, which activities are on a walk, and which names are answered."""
 
+import section_5_partners
 from bindings import mask, words
 from calls import IN, OUT, put_new, read_f
-from limits import ACTIVITIES, ALL, LAST
+from limits import ACTIVITIES, LAST
 from record import out_place
 from script import note, ok, refused, say, section
 
 
 def write():
-    section(5, "Net check: arcs and walks.")
+    section(5, "Net check: arcs, walks and partners.")
     read_f(1)
     nets_without_a_walk()
     activities_on_one_side_only()
-    names_without_counterpart()
-    arcs_to_oneself()
+    arcs_named_twice()
     walks()
     activities_apart()
     several_on_no_walk()
     nets_without_a_valid_sequence()
     nets_of_all_activities()
-    most_arcs()
+    section_5_partners.write()
 
 
 def nets_without_a_walk():
@@ -69,7 +69,7 @@ def activities_on_one_side_only():
     refused(6, 5, "check 0")
 
     note("Sets on both sides of 5, but 0 doesn't name it and 3 doesn't either: names without a "
-         "counterpart are no arcs.")
+         "partner are no arcs.")
     put_new(0, IN, 5, mask(0))
     refused(6, 5, "check 0")
 
@@ -91,56 +91,14 @@ def activities_on_one_side_only():
     say("check 0", "ok 6")
 
 
-def names_without_counterpart():
-    note("A name without a counterpart is no arc and no fault: 1 names 2 on its output side, but "
-         "no input set of 2 names 1.")
-    ok("copy 0 1")
-    put_new(0, OUT, 1, mask(2))
-    say("check 0", "ok 4")
-
-    note("With the counterpart (1, 2) is an arc.")
-    put_new(0, IN, 2, mask(1))
-    say("check 0", "ok 5")
-
-    note("The other way round: an input set of 1 names 2, and no output set of 2 names 1.")
-    ok("copy 0 1")
-    put_new(0, IN, 1, mask(2))
-    say("check 0", "ok 4")
-    put_new(0, OUT, 2, mask(1))
-    say("check 0", "ok 5")
-
-    note("The start named in an output set and the end in an input set are no arcs, since the "
-         "start's input side and the end's output side hold only the empty set.")
-    ok("copy 0 1")
-    put_new(0, OUT, 1, mask(0))
-    put_new(0, IN, 1, mask(3))
-    say("check 0", "ok 4")
-
-    note("The start names itself on its output side, the end on its input side: no arcs either.")
-    put_new(0, OUT, 0, mask(0))
-    put_new(0, IN, 3, mask(3))
-    say("check 0", "ok 4")
-
-
-def arcs_to_oneself():
-    note("The arc (1, 1) counts: first only one half of it is there, then both.")
-    ok("copy 0 1")
-    put_new(0, IN, 1, mask(1))
-    say("check 0", "ok 4")
-    put_new(0, OUT, 1, mask(1))
-    say("check 0", "ok 5")
-
-    note("Only the other half.")
-    ok("copy 0 1")
-    put_new(0, OUT, 1, mask(1, 3))
-    say("check 0", "ok 4")
-
+def arcs_named_twice():
     note("An arc shown by several pairs of sets counts once: (1, 3) is named by 2 and 6 on the "
-         "input side of 3 and by 8 and 12 on the output side of 1; 12 names 2, which isn't a "
-         "counterpart.")
+         "input side of 3 and by 8 and 12 on the output side of 1; 12 names 2 too, which names 1 "
+         "back.")
     ok("copy 0 1")
     put_new(0, OUT, 1, 12)
-    say("check 0", "ok 4")
+    put_new(0, IN, 2, mask(1))
+    say("check 0", "ok 5")
 
 
 def walks():
@@ -240,24 +198,3 @@ def nets_of_all_activities():
          "activity is on a walk, and the lowest is 0.")
     ok(f"poke 0 {out_place(half - 1)} 1")
     refused(6, 0, "check 0")
-
-
-def put_everywhere(outputs, inputs):
-    """A set for each output side but the end's, and one for each input side but the start's."""
-    for activity in range(LAST):
-        put_new(0, OUT, activity, outputs)
-    for activity in range(1, ACTIVITIES):
-        put_new(0, IN, activity, inputs)
-
-
-def most_arcs():
-    note(f"The most arcs there can be: start 0 and end {LAST}, each of 0 to {LAST - 1} names 1 to "
-         f"{LAST}, each of 1 to {LAST} names 0 to {LAST - 1}: {LAST} times {LAST} arcs.")
-    ok(f"fresh 0 0 {LAST}")
-    put_everywhere(outputs=ALL - mask(0), inputs=ALL - mask(LAST))
-    say("check 0", f"ok {LAST * LAST}")
-
-    note(f"The same with sets that name all {ACTIVITIES} activities; the start is never entered "
-         "and the end never left.")
-    put_everywhere(outputs=ALL, inputs=ALL)
-    say("check 0", f"ok {LAST * LAST}")

@@ -1,7 +1,8 @@
 -- How a chain of tests answers as a list of sentences says (specs/Sentences.antt), proved once for all calls. A chain is followed
 -- link by link: where a link's test passes, its sentence holds nowhere and the rest of the chain answers for the rest of the
 -- list; where it fails, its sentence holds at the place returned. So the answer is the first sentence of the list that holds.
--- As the numbers ascend along the list, that is the lowest; and as each sentence has one place, no other answer is as listed.
+-- As the numbers ascend along the list in the papers' order, none before it holds; and as each sentence has one place, no other
+-- answer is as listed.
 -- Of a file the same is done line by line. Assumes nothing.
 use Prim.Native.Nat.{ℕ, zero, suc, _≤_, _<_}
 use mathlib.Core.Path.{_≡_, refl, sym, ap, subst, _∙_}
@@ -14,7 +15,7 @@ use lib.Dec.{eqb, ltb}
 use Rattle.obligations.proofs.BoolLaws.{and-left, and-right, false-not-true}
 use Rattle.obligations.proofs.SetLaws.{lt-or-le}
 use Rattle.net.specs.Refusals.{Says, accepted, refused}
-use Rattle.net.specs.Sentences.{Whole, First, Lowest, Sentence, whole, first, lowest, numberOf, HoldsAt, Holds, NoneHolds, IsGiven, orderOnLine, IsGivenByLine, AsListed, AsListedByLine}
+use Rattle.net.specs.Sentences.{Whole, First, Lowest, Sentence, whole, first, lowest, numberOf, HoldsAt, Holds, NoneHolds, orderOf, IsGiven, orderOnLine, IsGivenByLine, AsListed, AsListedByLine}
 
 -- ---- a place is determined by its sentence
 
@@ -153,7 +154,7 @@ told-map refusal refusal′ f same ss value answer (stopped n p o) = rw (same n 
 -- ---- what a chain's answer shows
 
 module _ {A : Type 0} (refusal : ℕ → ℕ → A) (same : (n m p q : ℕ) → refusal n p ≡ refusal m q → (n ≡ m) × (p ≡ q)) (value : A) (accepts : (n p : ℕ) → value ≡ refusal n p → ⊥) where
-  pub told-listed : (ss : List Sentence) → ascends (λ n. n) 0 ss ≡ true → {answer : A} → Told refusal ss value answer → AsListed refusal ss answer
+  pub told-listed : (ss : List Sentence) → ascends orderOf 0 ss ≡ true → {answer : A} → Told refusal ss value answer → AsListed refusal ss answer
   told-listed ss a (passed none) = record {
     refused-exactly = λ n p. ((λ e. absurd (accepts n p e)), (λ l. absurd (none n p (l .holds))));
     not-refused-exactly = ((λ f. none), (λ f n p e. accepts n p e));
@@ -161,21 +162,21 @@ module _ {A : Type 0} (refusal : ℕ → ℕ → A) (same : (n m p q : ℕ) → 
   }
   told-listed ss a (stopped m q o) =
       let h = order-holds ss m q o in
-      let here : IsGiven ss m q = record { holds = h; none-lower = order-first (λ n. n) 0 ss a m q o } in
+      let here : IsGiven ss m q = record { holds = h; none-before = order-first orderOf 0 ss a m q o } in
       record {
         refused-exactly = λ n p. (
           (λ e. let s = same m n q p e in subst (λ (x : ℕ). IsGiven ss x p) (s .0) (subst (λ (x : ℕ). IsGiven ss m x) (s .1) here)),
           (λ l.
-              let e = same-number here l in
-              let u = holds-unique (λ n. n) 0 ss a m n q p e h (l .holds) in ap (λ (x : ℕ). refusal x q) (u .0) ∙ ap (refusal n) (u .1)),
+              let e = same-order here l in
+              let u = holds-unique orderOf 0 ss a m n q p e h (l .holds) in ap (λ (x : ℕ). refusal x q) (u .0) ∙ ap (refusal n) (u .1)),
         );
         not-refused-exactly = ((λ f. absurd (f m q refl)), (λ none. absurd (none m q h)));
         given-or-none = inr (m, q, here);
       }
     where
-      same-number : {m n q p : ℕ} → IsGiven ss m q → IsGiven ss n p → m ≡ n
-      same-number {m} {n} {q} {p} f g =
-          ⊎-elim (λ l. absurd (g .none-lower m q l (f .holds))) (λ l. ⊎-elim (λ k. absurd (f .none-lower n p k (g .holds))) (λ k. omega arith) (lt-or-le n m)) (lt-or-le m n)
+      same-order : {m n q p : ℕ} → IsGiven ss m q → IsGiven ss n p → orderOf m ≡ orderOf n
+      same-order {m} {n} {q} {p} f g =
+          ⊎-elim (λ l. absurd (g .none-before m q l (f .holds))) (λ l. ⊎-elim (λ k. absurd (f .none-before n p k (g .holds))) (λ k. omega arith) (lt-or-le (orderOf n) (orderOf m))) (lt-or-le (orderOf m) (orderOf n))
 
 -- ---- by line
 
@@ -239,7 +240,7 @@ refused-same n m p q e = (ap (λ (s : Says). s .refusal) e, ap (λ (s : Says). s
 pub accepted-not-refused : (v n p : ℕ) → accepted v ≡ refused n p → ⊥
 accepted-not-refused v n p e = false-not-true refl (sym (ap (λ (s : Says). s .ok) e))
 
-pub chain-listed : (ss : List Sentence) → ascends (λ n. n) 0 ss ≡ true → (v : ℕ) {answer : Says} → Told refused ss (accepted v) answer → AsListed refused ss answer
+pub chain-listed : (ss : List Sentence) → ascends orderOf 0 ss ≡ true → (v : ℕ) {answer : Says} → Told refused ss (accepted v) answer → AsListed refused ss answer
 chain-listed ss a v t = told-listed refused refused-same (accepted v) (accepted-not-refused v) ss a t
 
 -- where no refusal holds the chain's value is said, and only there

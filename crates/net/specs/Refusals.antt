@@ -1,4 +1,4 @@
--- The refusals of paper 01 by their numbers ("Refused, lowest number first"), and what an answer says.
+-- The papers' refusals by their numbers (01, "Refused, lowest number first"; 02), and what an answer says.
 use Prim.Native.Nat.{ℕ}
 use mathlib.Core.Bool.{Bool, true, false}
 
@@ -46,6 +46,9 @@ number-form = 14
 
 abbrev pub text-too-long : ℕ
 text-too-long = 15
+
+abbrev pub name-unanswered : ℕ
+name-unanswered = 19
 
 -- what an answer says: whether the call was accepted; if not the refusal's number and the place returned with it, and if so
 -- the call's value

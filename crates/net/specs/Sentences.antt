@@ -1,13 +1,13 @@
 -- Refusals as sentences (01, "Refused, lowest number first"). Each call has a list of sentences in the papers' words, each with
 -- its number and the place that is returned with it; what the call answers is read off that list. A request that adds a
 -- refusal adds a sentence to the lists of the calls that give it.
-use Prim.Native.Nat.{ℕ, suc, _+_, _<_}
+use Prim.Native.Nat.{ℕ, suc, _+_, _*_, _<_}
 use mathlib.Core.Path.{_≡_}
 use mathlib.Core.Bool.{cond, _||_}
 use mathlib.Core.List.{List, [], _∷_}
 use mathlib.Core.Logic.{_↔_, _⊎_}
 use lib.Dec.{eqb}
-use Rattle.net.specs.Refusals.{line-form, number-form}
+use Rattle.net.specs.Refusals.{on-no-walk, line-form, number-form, name-unanswered}
 
 -- ---- a sentence and its place
 
@@ -58,10 +58,14 @@ Holds (s ∷ ss) number place = ((numberOf s ≡ number) × HoldsAt s place) ⊎
 abbrev pub NoneHolds : List Sentence → Type 0
 NoneHolds ss = (number place : ℕ) → Holds ss number place → ⊥
 
--- the refusal that is given: it holds with this place, and none with a lower number holds
+-- the papers' order: lowest number first, and 19 directly after 6 (02, (iv))
+abbrev pub orderOf : ℕ → ℕ
+orderOf number = cond (eqb number name-unanswered) (2 * on-no-walk + 1) (2 * number)
+
+-- the refusal that is given: it holds with this place, and none that comes before it holds
 pub record IsGiven (ss : List Sentence) (number place : ℕ) : Type 0 where
   pub holds : Holds ss number place
-  pub none-lower : (n p : ℕ) → n < number → Holds ss n p → ⊥
+  pub none-before : (n p : ℕ) → orderOf n < orderOf number → Holds ss n p → ⊥
 
 -- ---- a file's sentences: those of line 0 are of the whole file, the row asked for and the buffer
 

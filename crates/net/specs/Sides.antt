@@ -22,6 +22,11 @@ abbrev pub lengthsOf : Net → Side → List ℕ
 lengthsOf net Input = net .«input_len»
 lengthsOf net Output = net .«output_len»
 
+-- the other kind of side
+abbrev pub opposite : Side → Side
+opposite Input = Output
+opposite Output = Input
+
 -- the activity whose side of this kind holds just the empty set: the start's inputs, the end's outputs
 abbrev pub emptyAt : Net → Side → ℕ
 emptyAt net Input = net .start

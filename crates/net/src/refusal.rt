@@ -1,4 +1,4 @@
-// The numbers of the papers' refusals ("Refused, lowest number first"), each named once.
+// The numbers of the papers' refusals (01, "Refused, lowest number first"; 02), each named once.
 
 pub const BAD_ENDS: u32 = 1;
 
@@ -29,3 +29,5 @@ pub const LINE_FORM: u32 = 13;
 pub const NUMBER_FORM: u32 = 14;
 
 pub const TEXT_TOO_LONG: u32 = 15;
+
+pub const NAME_UNANSWERED: u32 = 19;

@@ -25,7 +25,7 @@ use Rattle.net.specs.declared.ContainedAnswer.the-variants.{Yes, No}
 use Rattle.walks.specs.Below.{anyBelow, sumBelow, withIf, thoseBelow, those}
 use Rattle.walks.specs.Arcs.{named, names, arc, arcs}
 use Rattle.walks.specs.Rows.{rowsFrom, rows, unionFrom, oneRound, rounds, reach}
-use Rattle.walks.specs.Check.{onSides, inNet, successors, predecessors, outside, lost, lowestMember, checkMeans, checkSays}
+use Rattle.walks.specs.Check.{onSides, inNet, successors, predecessors, outside, lost, unansweredOn, unanswered, lowestMember, checkMeans, checkSays}
 use Rattle.walks.specs.declared.CheckAnswer.the-variants.{Passed}
 use Rattle.sequences.specs.Limits.{wordsWithin, withinLimits, traceWithinLimits}
 use Rattle.sequences.specs.Run.{largestTotal, outputSizes}
@@ -43,18 +43,18 @@ use Rattle.promises.specs.Marked.{Marked, MarkedPeak, session, detour, M
 
 -- the marked examples
 pub marked : Marked
-unfolding freshGives judgeSays judgePositions runSays firstMissing onSideAt learnSays learnGives withinLimits wordsWithin bindings firstNoActivity firstFailing firstFrom learnPositions shaped endsAgree firstWronglyEmpty emptyAgree firstImpossible possibleAt possible run after taken added inputs outputs placesOf members membersFrom keep allDue lowered raised allZero fits takesBinding takesPut withBinding withPut gained sideSays misplaced listed insert grows putMasks putLengths total freshNet orderly sized endsOk sidesOk blockOk allBelow ascendsAbove zeros trialsOf later orElse behind trialIf trial tryOutputs tryInputs atEnd searchFrom searchOf endSays replayed withinBudget checkedSays hasRoom replayTests replaySays checkSays lowestMember lost outside successors predecessors inNet onSides reach rounds oneRound unionFrom rows rowsFrom arcs arc names named those thoseBelow withIf sumBelow number anyBelow union single member bit F fig4 answers
+unfolding freshGives judgeSays judgePositions runSays firstMissing onSideAt learnSays learnGives withinLimits wordsWithin bindings firstNoActivity firstFailing firstFrom learnPositions shaped endsAgree firstWronglyEmpty emptyAgree firstImpossible possibleAt possible run after taken added inputs outputs placesOf members membersFrom keep allDue lowered raised allZero fits takesBinding takesPut withBinding withPut gained sideSays misplaced listed insert grows putMasks putLengths total freshNet orderly sized endsOk sidesOk blockOk allBelow ascendsAbove zeros trialsOf later orElse behind trialIf trial tryOutputs tryInputs atEnd searchFrom searchOf endSays replayed withinBudget checkedSays hasRoom replayTests replaySays checkSays lowestMember lost unanswered unansweredOn outside successors predecessors inNet onSides reach rounds oneRound unionFrom rows rowsFrom arcs arc names named those thoseBelow withIf sumBelow number anyBelow union single member bit F fig4 answers
 marked = (refl, refl, refl, refl, refl, refl, refl, refl, refl, refl, refl, refl, refl)
 
 -- the peak is 4, and as the judge says it too
 pub marked-peak : MarkedPeak
-unfolding judgeSays judgePositions runSays firstMissing onSideAt withinLimits wordsWithin bindings firstNoActivity firstFailing firstFrom shaped endsAgree firstImpossible possibleAt possible run after taken added inputs outputs placesOf members membersFrom keep allDue lowered raised allZero total largestTotal outputSizes size listed orderly sized endsOk sidesOk blockOk allBelow ascendsAbove zeros lowestMember lost outside successors predecessors inNet onSides reach rounds oneRound unionFrom rows rowsFrom arc names named those thoseBelow withIf number anyBelow union single member bit travel trip
+unfolding judgeSays judgePositions runSays firstMissing onSideAt withinLimits wordsWithin bindings firstNoActivity firstFailing firstFrom shaped endsAgree firstImpossible possibleAt possible run after taken added inputs outputs placesOf members membersFrom keep allDue lowered raised allZero total largestTotal outputSizes size listed orderly sized endsOk sidesOk blockOk allBelow ascendsAbove zeros lowestMember lost unanswered unansweredOn outside successors predecessors inNet onSides reach rounds oneRound unionFrom rows rowsFrom arc names named those thoseBelow withIf number anyBelow union single member bit travel trip
 marked-peak = (largest-is-peak (bindings trip) 4 (lit< tt) .0 refl, refl, refl)
 
 -- the longest session is followed and replayed, one that is longer is refused by 3, and sets of the last three positions decide
 -- a comparison
 pub marked-longest : MarkedLongest
-unfolding freshGives judgeSays learnSays learnGives withinLimits wordsWithin bindings words firstNoActivity firstFailing firstFrom shaped endsAgree possible after taken added inputs outputs placesOf members membersFrom keep allDue lowered raised allZero fits takesBinding takesPut withBinding withPut gained sideSays misplaced listed insert grows putMasks putLengths total freshNet orderly sized endsOk sidesOk blockOk allBelow ascendsAbove zeros followSays followGives traceWithinLimits followPositions followedFrom trialsOf later orElse behind trialIf trial tryOutputs tryInputs atEnd searchFrom searchOf endSays replayed withinBudget checkedSays hasRoom replayTests replaySays lowestMember lost outside successors predecessors inNet onSides reach rounds oneRound unionFrom rows rowsFrom arc names named those thoseBelow withIf number anyBelow union single member bit containedSays contained sidesWithin allListed session detour grown answers
+unfolding freshGives judgeSays learnSays learnGives withinLimits wordsWithin bindings words firstNoActivity firstFailing firstFrom shaped endsAgree possible after taken added inputs outputs placesOf members membersFrom keep allDue lowered raised allZero fits takesBinding takesPut withBinding withPut gained sideSays misplaced listed insert grows putMasks putLengths total freshNet orderly sized endsOk sidesOk blockOk allBelow ascendsAbove zeros followSays followGives traceWithinLimits followPositions followedFrom trialsOf later orElse behind trialIf trial tryOutputs tryInputs atEnd searchFrom searchOf endSays replayed withinBudget checkedSays hasRoom replayTests replaySays lowestMember lost unanswered unansweredOn outside successors predecessors inNet onSides reach rounds oneRound unionFrom rows rowsFrom arc names named those thoseBelow withIf number anyBelow union single member bit containedSays contained sidesWithin allListed session detour grown answers
 marked-longest = (refl, refl, refl, refl, refl, refl, refl)
 
 -- F is what three sequences give
@@ -85,7 +85,7 @@ nets :
     × (map checkSays (net ∷ larger ∷ other ∷ []) ≡ map checkMeans (Passed 7 ∷ Passed 8 ∷ Passed 1 ∷ []))
     × (containedSays net larger ≡ containedMeans Yes)
     × (containedSays net other ≡ containedMeans No)
-unfolding learnSays learnGives withinLimits wordsWithin bindings firstNoActivity firstFailing firstFrom learnPositions shaped endsAgree firstWronglyEmpty emptyAgree firstImpossible possibleAt possible run after taken added inputs outputs placesOf members membersFrom keep allDue lowered raised allZero fits takesBinding takesPut withBinding withPut gained sideSays misplaced listed insert grows putMasks putLengths total freshNet orderly sized endsOk sidesOk blockOk allBelow ascendsAbove zeros followSays followGives traceWithinLimits followPositions followedFrom single checkSays lowestMember lost outside successors predecessors inNet onSides reach rounds oneRound unionFrom rows rowsFrom arcs arc names named those thoseBelow withIf sumBelow number anyBelow union member bit containedSays contained sidesWithin allListed calls more others fig4 grown answers
+unfolding learnSays learnGives withinLimits wordsWithin bindings firstNoActivity firstFailing firstFrom learnPositions shaped endsAgree firstWronglyEmpty emptyAgree firstImpossible possibleAt possible run after taken added inputs outputs placesOf members membersFrom keep allDue lowered raised allZero fits takesBinding takesPut withBinding withPut gained sideSays misplaced listed insert grows putMasks putLengths total freshNet orderly sized endsOk sidesOk blockOk allBelow ascendsAbove zeros followSays followGives traceWithinLimits followPositions followedFrom single checkSays lowestMember lost unanswered unansweredOn outside successors predecessors inNet onSides reach rounds oneRound unionFrom rows rowsFrom arcs arc names named those thoseBelow withIf sumBelow number anyBelow union member bit containedSays contained sidesWithin allListed calls more others fig4 grown answers
 nets = (refl, refl, refl, refl)
 
 -- ---- a list in which a side is full

@@ -1,6 +1,7 @@
 -- 000, Theorem 1, for one sequence that is valid in a net: each of its activities is on a walk from start to end, since each
 -- position but the first takes from an earlier one and each but the last adds what a later one takes; and what its sets name
--- occurs in it. Assumes nothing.
+-- occurs in it and names them back: what a position takes was added by the one it names, what it adds is taken by a later one.
+-- Assumes nothing.
 use Prim.Native.Nat.{ℕ, zero, suc, _+_, _-_, _^_, _≤_, _<_}
 use mathlib.Core.Path.{_≡_, refl, sym, subst}
 use mathlib.Core.Bool.{true}
@@ -12,12 +13,12 @@ use Rattle.obligations.specs.Sets.{member}
 use Rattle.obligations.specs.Sequence.{Binding, at}
 use Rattle.obligations.proofs.SetLaws.{member-activity}
 use Rattle.obligations.proofs.MemberLaws.{some-member}
-use Rattle.net.specs.Sides.{OnSide}
+use Rattle.net.specs.Sides.{opposite, OnSide}
 use Rattle.net.specs.Valid.{Valid}
 use Rattle.net.specs.declared.Net.{Net}
 use Rattle.net.specs.declared.Side.{Side}
 use Rattle.net.specs.declared.Side.the-variants.{Input, Output}
-use Rattle.walks.specs.Arcs.{Arc}
+use Rattle.walks.specs.Arcs.{Names, Arc}
 use Rattle.walks.specs.Walk.{here, along, Walk, OnWalk}
 use Rattle.walks.proofs.AlongLaws.{along-one, along-join}
 use Rattle.sequences.specs.Gain.{setFor}
@@ -87,6 +88,15 @@ module _ (net : Net) (s : List Binding) (small : SetsAreMasks s) (v : Valid net 
   pub named-occurs : (side : Side) (i k : ℕ) → i < length s → member (setFor side (at s i)) k ≡ true → Occurs s k
   named-occurs Input i k h m = let w = from-earlier i k h m in record { position = w .0; inside = omega (arith, w .1); activity-is = w .2 .activity-is }
   named-occurs Output i k h m = let w = to-later i k h m in record { position = w .0; inside = w .2; activity-is = w .3 .activity-is }
+
+  -- and names the position's activity back
+  pub named-answers : (side : Side) (i k : ℕ) → i < length s → member (setFor side (at s i)) k ≡ true → Names net (opposite side) k (at s i .activity)
+  named-answers Input i k h m =
+      let w = from-earlier i k h m in
+      handed k (at s i .activity) (w .0) i (omega (arith, w .1)) h (w .2) (record { activity-is = refl; in-input = m }) .in-output
+  named-answers Output i k h m =
+      let w = to-later i k h m in
+      handed (at s i .activity) k i (w .0) h (w .2) (record { activity-is = refl; in-output = m }) (w .3) .in-input
 
   pub start-occurs : Occurs s (net .start)
   start-occurs =

@@ -2,7 +2,7 @@
 -- the answer of the search is no refusal. So no refusal holds exactly if every test passes, which is that the net passes, the
 -- trace is within the limit of positions, all of activities, and the buffer has three words for each. Assumes nothing.
 use Prim.Native.Nat.{ℕ}
-use mathlib.Core.Path.{_≡_, refl, ap}
+use mathlib.Core.Path.{_≡_, refl, ap, _∙_}
 use mathlib.Core.Bool.{Bool, true, false, cond}
 use mathlib.Core.List.{List, []}
 use native.Mathlib.Omega.{arith}
@@ -18,13 +18,13 @@ use Rattle.net.proofs.OrderlyLaws.{facts-orderly}
 use Rattle.net.proofs.SentenceLaws.{Told, told-end, whole-link, told-listed, chain-listed, told-map, told-accepted}
 use Rattle.net.proofs.CommonLaws.{orderly-link, activities-link}
 use Rattle.net.proofs.ChainLaws.{unless-passes, none-passes}
-use Rattle.walks.proofs.CheckLaws.{none-lost-passes, passes-none-lost, walks-link, walks-pass}
+use Rattle.walks.proofs.CheckLaws.{clear-passes, passes-clear, passing-link, passing-passes, passing-rest}
 use Rattle.search.specs.Search.{Result, found, failed, trialsOf}
 use Rattle.search.specs.Trace.{hasRoom}
 use Rattle.search.specs.Replay.{says-refused, says-spent, endSays, withinBudget, replayed, checkedSays, ReplayOutsideLimits, replayRefusals, replayTests, replaySays}
 use Rattle.search.specs.Statements.{Replayable}
 use Rattle.search.proofs.TraceLaws.{room-facts, facts-room, room-none, room-some}
-use Rattle.search.proofs.ReplayLaws.{tests-pass}
+use Rattle.search.proofs.ReplayLaws.{tests-net}
 
 -- ---- what a search says is no refusal
 
@@ -49,7 +49,7 @@ module _ (net : Net) (trace : List ℕ) (room : ℕ) where
       orderly-link refused (accepted 0) _ _ net
       (λ o. whole-link refused (accepted 0) outside-limits (ReplayOutsideLimits trace room) _ (hasRoom (length trace) room) _ (room-none trace room) (room-some trace room)
       (λ h. activities-link refused (accepted 0) _ _ (length trace) (activityIn trace)
-      (λ a. walks-link net o refused (accepted 0) [] _ (λ e. told-end refused (accepted 0)))))
+      (λ a. passing-link net o refused (accepted 0) [] _ (λ c. told-end refused (accepted 0)))))
 
   pub tests-listed : AsListed refused (replayRefusals net trace room) (replayTests net trace room)
   tests-listed = chain-listed (replayRefusals net trace room) refl 0 tests-told
@@ -71,10 +71,10 @@ module _ (net : Net) (trace : List ℕ) (room : ℕ) where
       let c₂ = unless-passes (orderly net) disorderly _ .0 (ap (λ (s : Says). s .ok) (none-holds-pass none)) in
       let c₃ = unless-passes (hasRoom (length trace) room) outside-limits _ .0 (c₂ .1) in
       let c₄ = none-passes (noActivityIn trace) no-activity _ .0 (c₃ .1) in
-      let c₆ = walks-pass net _ .0 (c₄ .1) in
+      let c₆ = passing-passes net _ .0 (c₄ .1) in
       let f = room-facts (length trace) room (c₃ .0) in
       record {
-        net-passes = none-lost-passes net (c₂ .0) (c₆ .0);
+        net-passes = clear-passes net (c₂ .0) (c₆ .0);
         trace-with-room = record { few-positions = f .0; activities-only = activities-below (length trace) (activityIn trace) (c₄ .0); three-words-each = f .1 };
       }
 
@@ -83,4 +83,5 @@ module _ (net : Net) (trace : List ℕ) (room : ℕ) where
       let o = facts-orderly net (r .net-passes .is-orderly) in
       let w = r .trace-with-room in
       told-accepted (replayRefusals net trace room) 0 tests-told .0
-      (tests-pass net trace room o (facts-room (length trace) room (w .few-positions) (w .three-words-each)) (below-activities (length trace) (activityIn trace) (w .activities-only)) (passes-none-lost net o (r .net-passes)))
+      (tests-net net trace room o (facts-room (length trace) room (w .few-positions) (w .three-words-each)) (below-activities (length trace) (activityIn trace) (w .activities-only))
+      ∙ passing-rest net (accepted 0) (passes-clear net o (r .net-passes)))

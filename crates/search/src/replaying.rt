@@ -11,6 +11,8 @@ use net::refusal;
 use obligations::PAIRS;
 use obligations::POSITIONS;
 use obligations::trace;
+use walks::CheckAnswer;
+use walks::check_orderly;
 ghost use mathlib.Core.Path.{_≡_};
 ghost use lib.ListN.{length};
 ghost use Rattle.net.specs.Sides.{netOf};
@@ -42,12 +44,11 @@ pub fn replay(net: Net, trace: &[u32], budget: u64, out: &mut [u32]) -> ReplayAn
             place: place,
         };
     }
-    let survey = walks::survey_net(net);
-    let lost = survey.lost;
-    if lost != 0 {
+    let checked = check_orderly(net);
+    if let CheckAnswer::Refused { number, place } = checked {
         return ReplayAnswer::Refused {
-            number: refusal::ON_NO_WALK,
-            place: u32::trailing_zeros(lost),
+            number: number,
+            place: place,
         };
     }
     answered(replay_checked(net, trace, budget, out))

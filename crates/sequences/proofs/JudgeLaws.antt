@@ -13,10 +13,11 @@ use Rattle.net.proofs.SideLaws.{length-side, side-at}
 use Rattle.net.proofs.ListLaws.{listed-here, listed-next, listed-end}
 use Rattle.obligations.specs.Trace.{shaped}
 use Rattle.obligations.specs.Sequence.{Binding, bindings, at}
-use Rattle.net.specs.Refusals.{refused}
+use Rattle.net.specs.Refusals.{accepted, refused}
 use Rattle.net.specs.Orderly.{orderly}
 use Rattle.net.specs.declared.Net.{Net}
-use Rattle.walks.specs.Check.{lost, lowestMember}
+use Rattle.walks.specs.Check.{passing}
+use Rattle.walks.proofs.CheckLaws.{Clear, passing-rest, passing-refused}
 use Rattle.sequences.specs.Run.{ran}
 use Rattle.sequences.specs.Judge.{judgeMeans, firstMissing, runSays, judgePositions, judgeSays}
 use Rattle.sequences.specs.Inner.{limitsMeans, LimitsOf}
@@ -75,23 +76,23 @@ module _ (s : List Binding) where
   run-settled peak q = let f = settled-shown s peak q in rw (f .0, f .1, f .2)
 
 module _ (net : Net) (s : List Binding) where
-  pub refused-lost : (lost net ≡ 0 → ⊥) → judgeMeans (Refused 6 (lowestMember (lost net))) ≡ judgePositions net s
+  pub judged-not-passing : (v n p : ℕ) → passing net (accepted v) ≡ refused n p → judgeMeans (Refused n p) ≡ judgePositions net s
   unfolding judgePositions
-  refused-lost ne = rw (ne-eqb (lost net) 0 ne)
+  judged-not-passing v n p e = sym (passing-refused net _ v n p e)
 
-  module _ (w : lost net ≡ 0) where
+  module _ (w : Clear net) where
     pub judged-ends : shaped (net .start) (net .end) (length s) (λ i. at s i .activity) ≡ false → judgeMeans (Refused 7 0) ≡ judgePositions net s
     unfolding judgePositions
-    judged-ends f = rw (w, f)
+    judged-ends f = sym (passing-rest net _ w ∙ rw f)
 
     module _ (h : shaped (net .start) (net .end) (length s) (λ i. at s i .activity) ≡ true) where
       pub judged-missing : (place : ℕ) → place ≡ firstMissing net s → (place ≡ 0 → ⊥) → judgeMeans (Refused 8 place) ≡ judgePositions net s
       unfolding judgePositions
-      judged-missing place e ne = rw (w, h, ← e, ne-eqb place 0 ne)
+      judged-missing place e ne = sym (passing-rest net _ w ∙ rw (h, ← e, ne-eqb place 0 ne))
 
       pub judged-run : firstMissing net s ≡ 0 → judgePositions net s ≡ runSays s
       unfolding judgePositions
-      judged-run e = rw (w, h, e)
+      judged-run e = passing-rest net _ w ∙ rw (h, e)
 
 module _ (net : Net) (ws : List ℕ) where
   pub judged-disorderly : orderly net ≡ false → judgeMeans (Refused 2 0) ≡ judgeSays net ws

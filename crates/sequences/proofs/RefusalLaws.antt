@@ -26,7 +26,7 @@ use Rattle.net.specs.declared.Net.{Net}
 use Rattle.net.specs.declared.Side.the-variants.{Input, Output}
 use Rattle.net.proofs.SentenceLaws.{Told, told-end, whole-link, chain-listed}
 use Rattle.net.proofs.CommonLaws.{orderly-link, failing-link, activities-link, shape-link}
-use Rattle.walks.proofs.CheckLaws.{walks-link}
+use Rattle.walks.proofs.CheckLaws.{passing-link}
 use Rattle.sequences.specs.Limits.{activityOf, notSequence, longTrace, wordsWithin, withinLimits, traceWithinLimits}
 use Rattle.sequences.specs.Run.{Impossible, notPossible, leftOver, largestTotal}
 use Rattle.sequences.specs.Gain.{Fits, notFitting, fits}
@@ -157,7 +157,7 @@ judge-told net ws =
     orderly-link refused value _ _ net
     (λ o. words-link value _ _ ws
     (λ w. activities-link refused value _ _ (length s) (activityOf s)
-    (λ a. walks-link net o refused value _ _
+    (λ a. passing-link net o refused value _ _
     (λ l. shape-link refused value _ _ net (length s) (activityOf s)
     (λ h. missing-link value _ _ net s
     (λ m. possible-link value _ _ s

@@ -22,7 +22,7 @@ use Rattle.net.specs.declared.Side.the-variants.{Input, Output}
 use Rattle.net.proofs.ListLaws.{listed-one}
 use Rattle.net.proofs.OrderlyLaws.{orderly-facts, facts-orderly}
 use Rattle.net.proofs.ChainLaws.{unless-passes, none-passes}
-use Rattle.walks.proofs.CheckLaws.{none-lost-passes, passes-none-lost, walks-pass}
+use Rattle.walks.proofs.CheckLaws.{clear-passes, passes-clear, passing-passes}
 use Rattle.sequences.specs.Limits.{wordsWithin, withinLimits}
 use Rattle.sequences.specs.Judge.{onSideAt, firstMissing, runSays, judgePositions, judgeSays}
 use Rattle.sequences.specs.Statements.{Judgeable}
@@ -74,7 +74,7 @@ module _ (net : Net) (ws : List ℕ) where
       let c₂ = unless-passes (orderly net) 2 _ .0 e in
       let c₃ = unless-passes (wordsWithin ws) 3 _ .0 (c₂ .1) in
       let c₄ = none-passes (firstNoActivity (length s) (λ i. at s i .activity)) 4 _ .0 (c₃ .1) in
-      let c₆ = walks-pass net _ .0 (c₄ .1) in
+      let c₆ = passing-passes net _ .0 (c₄ .1) in
       let c₇ = unless-passes (shaped (net .start) (net .end) (length s) (λ i. at s i .activity)) 7 _ .0 (c₆ .1) in
       let c₈ = none-passes (firstMissing net s) 8 _ .0 (c₇ .1) in
       let c₁₀ = none-passes (firstImpossible s) 10 _ .0 (c₈ .1) in
@@ -85,7 +85,7 @@ module _ (net : Net) (ws : List ℕ) where
       let a = activities-below (length s) (λ i. at s i .activity) (c₄ .0) in
       let em = sides-empty net s o a (shaped-facts (net .start) (net .end) (length s) (λ i. at s i .activity) (c₇ .0)) on in
       record {
-        passes = none-lost-passes net (c₂ .0) (c₆ .0);
+        passes = clear-passes net (c₂ .0) (c₆ .0);
         count = n .0;
         whole = n .1;
         few = n .2;
@@ -106,7 +106,8 @@ module _ (net : Net) (ws : List ℕ) where
         o,
         whole-words ws (l .count) (l .whole) (l .few),
         formed-activities (net .start) (net .end) s f,
-        passes-none-lost net o (l .passes),
+        passes-clear net o (l .passes) .0,
+        passes-clear net o (l .passes) .1,
         formed-shaped (net .start) (net .end) s f,
         none-missing net s (record { inputs = l .valid .inputs-on-side; outputs = l .valid .outputs-on-side }),
         formed-possible (net .start) (net .end) s f,

@@ -1,4 +1,4 @@
--- Judge (01, "Net check and judge"): refusals 2, 3, 4, 6, 7, 8, 10, 11 in this order; else the peak (02, (i)).
+-- Judge (01, "Net check and judge"): refusals 2, 3, 4, 6, 19 (02, (iv)), 7, 8, 10, 11 in this order; else the peak (02, (i)).
 use Prim.Native.Nat.{ℕ}
 use mathlib.Core.Bool.{Bool, _&&_}
 use mathlib.Core.List.{List, [], _∷_}
@@ -17,7 +17,7 @@ use Rattle.net.specs.Common.{notOrderly, notActivities, notShaped}
 use Rattle.net.specs.declared.Net.{Net}
 use Rattle.net.specs.declared.Side.{Side}
 use Rattle.net.specs.declared.Side.the-variants.{Input, Output}
-use Rattle.walks.specs.Check.{onNoWalk, onWalks}
+use Rattle.walks.specs.Check.{onNoWalk, nameUnanswered, passing}
 use Rattle.sequences.specs.Limits.{activityOf, notSequence, withinLimits}
 use Rattle.sequences.specs.Run.{notPossible, leftOver, largestTotal}
 use Rattle.sequences.specs.Gain.{setFor}
@@ -42,6 +42,7 @@ judgeRefusals net ws =
     ∷ notSequence ws
     ∷ notActivities (length s) (activityOf s)
     ∷ onNoWalk net
+    ∷ nameUnanswered net
     ∷ notShaped net (length s) (activityOf s)
     ∷ first missing-set (length s) (Missing net s)
     ∷ notPossible s
@@ -62,10 +63,10 @@ firstMissing net s = firstFailing (length s) (λ i. onSideAt net Input s i && on
 unfoldable pub runSays : List Binding → Says
 runSays s = noneAt (firstImpossible s) not-possible (unless (allZero (ψ s)) left-over (accepted (largestTotal nothing s)))
 
--- refusals 6, 7 and 8, then those, of a sequence within the limits
+-- refusals 6, 19, 7 and 8, then those, of a sequence within the limits
 unfoldable pub judgePositions : Net → List Binding → Says
 judgePositions net s =
-    onWalks net
+    passing net
     (unless (shaped (net .start) (net .end) (length s) (activityOf s)) wrong-ends
     (noneAt (firstMissing net s) missing-set
     (runSays s)))

@@ -10,7 +10,8 @@ use net::SETS;
 use net::is_orderly;
 use net::refusal;
 use obligations::trace::is_shaped;
-use walks::survey_net;
+use walks::CheckAnswer;
+use walks::check_orderly;
 ghost use mathlib.Core.Path.{_≡_};
 ghost use mathlib.Core.Bool.{true};
 ghost use Rattle.obligations.specs.Sequence.{bindings};
@@ -44,12 +45,11 @@ fn judge_positions(net: Net, words: &[u32], n: usize) -> JudgeAnswer
     requires { ⌜ WithinLimits (now words) n ⌝ }
     ensures { λ r. ⌜ judgeMeans r ≡ judgePositions net (bindings (now (words .entry))) ⌝ }
 {
-    let survey = survey_net(net);
-    let lost = survey.lost;
-    if lost != 0 {
+    let checked = check_orderly(net);
+    if let CheckAnswer::Refused { number, place } = checked {
         return JudgeAnswer::Refused {
-            number: refusal::ON_NO_WALK,
-            place: u32::trailing_zeros(lost),
+            number: number,
+            place: place,
         };
     }
     if !is_shaped(words, 3, n, net.start, net.end) {

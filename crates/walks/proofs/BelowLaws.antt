@@ -3,15 +3,15 @@
 use Prim.Native.Nat.{ℕ, zero, suc, _+_, _^_, _≤_, _<_}
 use mathlib.Core.Path.{_≡_, refl, sym, ap, ap₂, _∙_}
 use mathlib.Core.Logic.{⊎-elim}
-use mathlib.Core.Bool.{Bool, true, false, _&&_, _||_, and-true, and-false, or-false}
+use mathlib.Core.Bool.{Bool, true, false, not, _&&_, _||_, and-true, and-false, or-false}
 use native.Mathlib.Nat.{le-refl, eq-or-lt-of-le}
 use native.Mathlib.Omega.{arith}
 use borrow.Author.Tests.{eq-eqb, ne-eqb, lt-ltb, le-ltb}
 use lib.Dec.{eqb, ltb}
 use Rattle.obligations.specs.Tests.{number}
 use Rattle.obligations.specs.Sets.{member, single, minus, size}
-use Rattle.obligations.proofs.BoolLaws.{false-not-true, or-left, or-right, or-cases}
-use Rattle.obligations.proofs.SetLaws.{lt-or-le, member-none, member-with, member-activity, union-lt, minus-lt, single-lt, set-ext, minus-some, minus-member}
+use Rattle.obligations.proofs.BoolLaws.{true-or-false, false-not-true, and-both, or-left, or-right, or-cases}
+use Rattle.obligations.proofs.SetLaws.{lt-or-le, member-none, member-with, member-minus, member-activity, union-lt, minus-lt, single-lt, set-ext, minus-some, minus-member}
 use Rattle.obligations.proofs.TestLaws.{below-cases, number-ext, number-lt}
 use Rattle.obligations.proofs.MemberLaws.{size-number, some-member}
 use Rattle.walks.specs.Below.{anyBelow, sumBelow, withIf, thoseBelow, those}
@@ -36,6 +36,23 @@ pub any-ext : (n : ℕ) (f g : ℕ → Bool) → ((k : ℕ) → k < n → f k �
 unfolding anyBelow
 any-ext zero f g e = refl
 any-ext (suc n) f g e = ap₂ (λ (s t : Bool). s || t) (any-ext n f g (λ k l. e k (omega arith))) (e n (omega arith))
+
+-- ---- whether a set has a member that another lacks
+
+module _ (m n : ℕ) (hm : m < 2 ^ 32) (hn : n < 2 ^ 32) where
+  pub some-lacked : (minus m n ≡ 0 → ⊥) → anyBelow 32 (λ k. member m k && not (member n k)) ≡ true
+  some-lacked d =
+      let w = some-member (minus m n) (omega arith) (minus-lt m n hm) in
+      let e = minus-member m n (w .0) hm hn (w .1) in
+      true-any (λ k. member m k && not (member n k)) 32 (w .0) (member-activity m (w .0) hm (e .0)) (and-both (e .0) (rw (e .1)))
+
+  pub none-lacked : minus m n ≡ 0 → anyBelow 32 (λ k. member m k && not (member n k)) ≡ false
+  none-lacked z =
+      ⊎-elim
+      (λ e.
+      let w = any-true (λ k. member m k && not (member n k)) 32 e in
+      absurd (false-not-true (ap (λ (s : ℕ). member s (w .0)) z ∙ member-none (w .0)) (member-minus m n (w .0) hm hn ∙ w .2)))
+      (λ e. e) (true-or-false (anyBelow 32 (λ k. member m k && not (member n k))))
 
 -- ---- which pass
 

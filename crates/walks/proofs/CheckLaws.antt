@@ -1,45 +1,43 @@
--- What the check says of an orderly net: the set of lost activities has exactly those of the net on no walk, and its lowest
--- member is the lowest of them. Assumes nothing.
-use Prim.Native.Nat.{ℕ, _^_, _<_}
+-- What the check says of an orderly net: the set of lost activities has exactly those of the net on no walk, that of unanswered
+-- ones exactly those with a name that isn't answered, and where both are empty the net passes. Assumes nothing.
+use Prim.Native.Nat.{ℕ, _<_}
 use mathlib.Core.Path.{_≡_, refl, sym, ap, _∙_}
 use mathlib.Core.Logic.{⊎-elim, _↔_}
-use mathlib.Core.Bool.{Bool, true, false, not, cond, _&&_}
+use mathlib.Core.Bool.{Bool, true, false, not, cond, _&&_, _||_}
 use mathlib.Core.List.{List, [], _∷_}
-use native.Mathlib.Omega.{arith}
-use borrow.Author.Tests.{eqb-true, eqb-false, eq-eqb}
+use borrow.Author.Tests.{eq-eqb, not-true}
 use lib.Dec.{eqb}
-use lib.Count.{trailingZeros}
-use lib.ListN.{getD}
 use Rattle.obligations.specs.Sets.{member}
-use Rattle.obligations.proofs.BoolLaws.{true-or-false, false-not-true, and-left, and-right, and-both}
-use Rattle.obligations.proofs.SetLaws.{member-none, no-members}
-use Rattle.obligations.proofs.MemberLaws.{members-walk}
-use Rattle.obligations.proofs.LowestLaws.{lowest-activity, lowest-member, none-below}
-use Rattle.net.specs.Refusals.{accepted, refused, on-no-walk, Says, disorderly}
-use Rattle.net.specs.Sentences.{Sentence, Lowest, AsListed}
+use Rattle.obligations.proofs.BoolLaws.{true-or-false, false-not-true, and-left, and-right, and-both, or-left, or-right, or-cases}
+use Rattle.obligations.proofs.SetLaws.{member-activity}
+use Rattle.net.specs.Refusals.{accepted, refused, on-no-walk, name-unanswered, Says, disorderly}
+use Rattle.net.specs.Sentences.{Sentence, AsListed}
+use Rattle.net.specs.Sides.{opposite}
 use Rattle.net.specs.Orderly.{orderly}
 use Rattle.net.specs.declared.Net.{Net}
+use Rattle.net.specs.declared.Side.{Side}
+use Rattle.net.specs.declared.Side.the-variants.{Input, Output}
 use Rattle.net.proofs.OrderlyLaws.{orderly-facts, on-side-activity}
-use Rattle.net.proofs.SentenceLaws.{Told, told-end, told-link, chain-listed}
+use Rattle.net.proofs.SentenceLaws.{Told, told-end, chain-listed}
 use Rattle.net.proofs.CommonLaws.{orderly-link}
-use Rattle.net.proofs.ChainLaws.{unless-at-passes, unless-passes}
-use Rattle.walks.specs.Arcs.{arcs}
+use Rattle.net.proofs.ChainLaws.{unless-passes}
+use Rattle.walks.specs.Arcs.{Names, names, arcs}
 use Rattle.walks.specs.Walk.{InNet, the-start, the-end, with-a-set, in-a-set, OnWalk, Passes}
 use Rattle.walks.specs.Rows.{reach}
-use Rattle.walks.specs.Check.{inNet, successors, predecessors, outside, Lost, onNoWalk, checkRefusals, lost, lowestMember, onWalks, checkSays}
-use Rattle.walks.proofs.BelowLaws.{member-those-at}
-use Rattle.walks.proofs.LinkLaws.{lost-lt}
-use Rattle.walks.proofs.WalkLaws.{in-net-facts, on-walk-facts}
+use Rattle.walks.specs.Check.{inNet, successors, predecessors, outside, Lost, onNoWalk, Unanswered, nameUnanswered, checkRefusals, lost, unansweredOn, unanswered, lowestMember, passing, checkSays}
+use Rattle.walks.proofs.BelowLaws.{any-true, true-any, member-those-at}
+use Rattle.walks.proofs.ArcLaws.{names-facts}
+use Rattle.walks.proofs.LinkLaws.{lost-lt, unanswered-lt}
+use Rattle.walks.proofs.WalkLaws.{names-activity, in-net-facts, on-walk-facts}
+use Rattle.walks.proofs.NoneInLaws.{Collects, empty-none, none-empty, none-in-link, none-in-passes}
 
--- ---- the lowest member of a set is found by trailing zeros
-
-pub lowest-is : (m : ℕ) → 0 < m → m < 2 ^ 32 → lowestMember m ≡ trailingZeros 32 m
-unfolding lowestMember
-lowest-is m some small = ap (λ (l : List ℕ). getD l 0 0) (members-walk m some small)
-
--- ---- the lost activities
+-- the check finds nothing in a net
+abbrev pub Clear : Net → Type 0
+Clear net = (lost net ≡ 0) × (unanswered net ≡ 0)
 
 module _ (net : Net) (o : orderly net ≡ true) where
+  -- ---- the lost activities
+
   -- each of the net's activities is one
   pub in-net-activity : (a : ℕ) → InNet net a → a < 32
   in-net-activity a (the-start e) = rw e (orderly-facts net o .start-activity)
@@ -67,46 +65,128 @@ module _ (net : Net) (o : orderly net ≡ true) where
       both s true e f = refl
       both s false e f = absurd (false-not-true f (and-both e refl))
 
+  lost-collects : Collects (lost net) (Lost net)
+  lost-collects = record {
+    small = lost-lt net;
+    in-set = λ a. (
+      (λ e. lost-in-net a (member-activity (lost net) a (lost-lt net) e) e),
+      (λ l. ⊎-elim (λ e. e) (λ e. absurd (l .1 (not-lost a (in-net-activity a (l .0)) e (l .0)))) (true-or-false (member (lost net) a))),
+    );
+  }
+
+  -- ---- the activities with a name that isn't answered
+
+  test-unanswered : (side : Side) (a : ℕ) → unansweredOn net side a ≡ true → Unanswered net a
+  unfolding unansweredOn
+  test-unanswered side a e =
+      let w = any-true (λ k. names net side a k && not (names net (opposite side) k a)) 32 e in
+      let back = not-true (names net (opposite side) (w .0) a) (and-right (names net side a (w .0)) (not (names net (opposite side) (w .0) a)) (w .2)) in
+      record {
+        side = side;
+        named-one = w .0;
+        an-activity = w .1;
+        names-it = names-facts net side a (w .0) .0 (and-left (names net side a (w .0)) (not (names net (opposite side) (w .0) a)) (w .2));
+        never-back = λ n. false-not-true back (names-facts net (opposite side) (w .0) a .1 n);
+      }
+
+  unanswered-test : (side : Side) (a k : ℕ) → k < 32 → Names net side a k → (Names net (opposite side) k a → ⊥) → unansweredOn net side a ≡ true
+  unfolding unansweredOn
+  unanswered-test side a k h n never =
+      true-any (λ j. names net side a j && not (names net (opposite side) j a)) 32 k h
+      (and-both (names-facts net side a k .1 n) (⊎-elim (λ e. absurd (never (names-facts net (opposite side) k a .0 e))) (λ e. rw e) (true-or-false (names net (opposite side) k a))))
+
+  on-one : (side : Side) (a : ℕ) → unansweredOn net side a ≡ true → unansweredOn net Input a || unansweredOn net Output a ≡ true
+  on-one Input a e = or-left (unansweredOn net Output a) e
+  on-one Output a e = or-right (unansweredOn net Input a) e
+
+  member-unanswered : (a : ℕ) → a < 32 → member (unanswered net) a ≡ unansweredOn net Input a || unansweredOn net Output a
+  unfolding unanswered
+  member-unanswered a h = member-those-at (λ b. unansweredOn net Input b || unansweredOn net Output b) a h
+
+  unanswered-collects : Collects (unanswered net) (Unanswered net)
+  unanswered-collects = record {
+    small = unanswered-lt net;
+    in-set = λ a. (
+      (λ e. ⊎-elim (test-unanswered Input a) (test-unanswered Output a) (or-cases (unansweredOn net Input a) (unansweredOn net Output a) (sym (member-unanswered a (member-activity (unanswered net) a (unanswered-lt net) e)) ∙ e))),
+      (λ u. member-unanswered a (names-activity net o (u .side) a (u .named-one) (u .names-it)) ∙ on-one (u .side) a (unanswered-test (u .side) a (u .named-one) (u .an-activity) (u .names-it) (u .never-back))),
+    );
+  }
+
+  -- where no name is unanswered, each is answered
+  names-back : unanswered net ≡ 0 → (side : Side) (a k : ℕ) → k < 32 → Names net side a k → Names net (opposite side) k a
+  names-back e side a k h n =
+      ⊎-elim (names-facts net (opposite side) k a .0)
+      (λ f. absurd (empty-none unanswered-collects e a (record { side = side; named-one = k; an-activity = h; names-it = n; never-back = λ m. false-not-true f (names-facts net (opposite side) k a .1 m) })))
+      (true-or-false (names net (opposite side) k a))
+
+  -- ---- the nets that pass
+
+  pub clear-passes : Clear net → Passes net
+  clear-passes c = record {
+    is-orderly = orderly-facts net o;
+    on-walks = on-walk;
+    answered = λ p q hp hq. (names-back (c .1) Input q p hp, names-back (c .1) Output p q hq);
+  }
+    where
+      on-walk : (a : ℕ) → InNet net a → OnWalk net a
+      on-walk a i = ⊎-elim (λ e. absurd (empty-none lost-collects (c .0) a (lost-collects .in-set a .0 e))) (λ e. not-lost a (in-net-activity a i) e i) (true-or-false (member (lost net) a))
+
+  answers : Passes net → (side : Side) (a k : ℕ) → a < 32 → k < 32 → Names net side a k → Names net (opposite side) k a
+  answers p Input a k ha hk = p .answered k a hk ha .0
+  answers p Output a k ha hk = p .answered a k ha hk .1
+
+  pub passes-clear : Passes net → Clear net
+  passes-clear p = (
+    none-empty lost-collects (λ a l. l .1 (p .on-walks a (l .0))),
+    none-empty unanswered-collects (λ a u. u .never-back (answers p (u .side) a (u .named-one) (names-activity net o (u .side) a (u .named-one) (u .names-it)) (u .an-activity) (u .names-it))),
+  )
+
   -- ---- what is said of an orderly net
 
-  pub says-none-lost : lost net ≡ 0 → checkSays net ≡ accepted (arcs net)
+  pub says-clear : Clear net → checkSays net ≡ accepted (arcs net)
   unfolding checkSays
-  says-none-lost e = rw (o, eq-eqb (lost net) 0 e)
+  says-clear c = rw (o, eq-eqb (lost net) 0 (c .0), eq-eqb (unanswered net) 0 (c .1))
 
-  pub none-lost-passes : lost net ≡ 0 → Passes net
-  none-lost-passes e = record { is-orderly = orderly-facts net o; on-walks = λ a i. not-lost a (in-net-activity a i) (ap (λ (m : ℕ). member m a) e ∙ member-none a) i }
-
-  pub passes-none-lost : Passes net → lost net ≡ 0
-  passes-none-lost p = no-members (lost net) (lost-lt net) (λ k h. ⊎-elim (λ e. let l = lost-in-net k h e in absurd (l .1 (p .on-walks k (l .0)))) (λ e. e) (true-or-false (member (lost net) k)))
-
-  lost-lowest : (lost net ≡ 0 → ⊥) → Lowest (Lost net) (lowestMember (lost net))
-  lost-lowest n =
-      let some : 0 < lost net = omega arith in
-      let a = trailingZeros 32 (lost net) in
-      let h = lowest-activity (lost net) some (lost-lt net) in
-      rw (lowest-is (lost net) some (lost-lt net))
-      (record { bad = lost-in-net a h (lowest-member (lost net) some (lost-lt net)); none-lower = λ b k l. l .1 (not-lost b (omega arith) (none-below (lost net) b k) (l .0)) })
-
-  -- the link of a chain whose sentence is refusal 6
+  -- the links of a chain whose sentences are refusals 6 and 19
   module _ {A : Type 0} (refusal : ℕ → ℕ → A) (value : A) (ss : List Sentence) (rest : A) where
-    pub walks-link : (lost net ≡ 0 → Told refusal ss value rest)
-        → Told refusal (onNoWalk net ∷ ss) value (cond (eqb (lost net) 0) rest (refusal on-no-walk (lowestMember (lost net))))
-    walks-link next =
-        told-link refusal value (onNoWalk net) ss (eqb (lost net) 0) (lowestMember (lost net)) rest
-        (λ e q l. l .bad .1 (none-lost-passes (eqb-true (lost net) 0 e) .on-walks q (l .bad .0))) (λ e. lost-lowest (eqb-false (lost net) 0 e)) (λ e. next (eqb-true (lost net) 0 e))
+    pub passing-link : (Clear net → Told refusal ss value rest)
+        → Told refusal (onNoWalk net ∷ nameUnanswered net ∷ ss) value
+        (cond (eqb (lost net) 0) (cond (eqb (unanswered net) 0) rest (refusal name-unanswered (lowestMember (unanswered net)))) (refusal on-no-walk (lowestMember (lost net))))
+    passing-link next =
+        none-in-link lost-collects refusal value on-no-walk _ _
+        (λ e. none-in-link unanswered-collects refusal value name-unanswered ss rest (λ f. next (e, f)))
 
--- a link of which the test is refusal 6 passes exactly if no activity is lost
-pub walks-pass : (net : Net) (rest : Says) → (onWalks net rest .ok ≡ true) ↔ ((lost net ≡ 0) × (rest .ok ≡ true))
-walks-pass net rest =
-    let u = unless-at-passes (eqb (lost net) 0) on-no-walk (lowestMember (lost net)) rest in
-    ((λ e. (eqb-true (lost net) 0 (u .0 e .0), u .0 e .1)), (λ w. u .1 (eq-eqb (lost net) 0 (w .0), w .1)))
+-- ---- the chain's part that a check says
+
+module _ (net : Net) (rest : Says) where
+  -- it passes exactly if the check finds nothing, and is then the rest
+  pub passing-passes : (passing net rest .ok ≡ true) ↔ (Clear net × (rest .ok ≡ true))
+  passing-passes =
+      let l = none-in-passes (lost net) on-no-walk _ in
+      let u = none-in-passes (unanswered net) name-unanswered rest in (
+        (λ e. let w = l .0 e in let v = u .0 (w .1) in ((w .0, v .0), v .1)),
+        (λ w. l .1 (w .0 .0, u .1 (w .0 .1, w .1))),
+      )
+
+  pub passing-rest : Clear net → passing net rest ≡ rest
+  passing-rest c = rw (eq-eqb (lost net) 0 (c .0), eq-eqb (unanswered net) 0 (c .1))
+
+  -- a refusal of the check is the chain's, whatever the rest is
+  pub passing-refused : (v n p : ℕ) → passing net (accepted v) ≡ refused n p → passing net rest ≡ refused n p
+  passing-refused v n p e = go (eqb (lost net) 0) (eqb (unanswered net) 0) e
+    where
+      go : (s t : Bool) → cond s (cond t (accepted v) (refused name-unanswered (lowestMember (unanswered net)))) (refused on-no-walk (lowestMember (lost net))) ≡ refused n p
+          → cond s (cond t rest (refused name-unanswered (lowestMember (unanswered net)))) (refused on-no-walk (lowestMember (lost net))) ≡ refused n p
+      go true true q = absurd (false-not-true refl (sym (ap (λ (s : Says). s .ok) q)))
+      go true false q = q
+      go false t q = q
 
 -- ---- the call
 
 pub check-told : (net : Net) → Told refused (checkRefusals net) (accepted (arcs net)) (checkSays net)
 unfolding checkSays
 check-told net =
-    orderly-link refused (accepted (arcs net)) _ _ net (λ o. walks-link net o refused (accepted (arcs net)) [] _ (λ e. told-end refused (accepted (arcs net))))
+    orderly-link refused (accepted (arcs net)) _ _ net (λ o. passing-link net o refused (accepted (arcs net)) [] _ (λ c. told-end refused (accepted (arcs net))))
 
 pub check-listed : (net : Net) → AsListed refused (checkRefusals net) (checkSays net)
 check-listed net = chain-listed (checkRefusals net) refl (arcs net) (check-told net)
@@ -116,4 +196,4 @@ pub said-passes : (net : Net) → checkSays net .ok ≡ true → Passes net
 unfolding checkSays
 said-passes net e =
     let c₂ = unless-passes (orderly net) disorderly _ .0 e in
-    none-lost-passes net (c₂ .0) (walks-pass net _ .0 (c₂ .1) .0)
+    clear-passes net (c₂ .0) (passing-passes net _ .0 (c₂ .1) .0)

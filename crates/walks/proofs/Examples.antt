@@ -15,7 +15,7 @@ use Rattle.net.specs.declared.Side.the-variants.{Input, Output}
 use Rattle.walks.specs.Below.{anyBelow, sumBelow, withIf, thoseBelow, those}
 use Rattle.walks.specs.Arcs.{named, names, arc, arcs}
 use Rattle.walks.specs.Rows.{rowsFrom, rows, unionFrom, oneRound, rounds, reach}
-use Rattle.walks.specs.Check.{onSides, inNet, successors, predecessors, outside, lost, lowestMember, checkSays, checkMeans}
+use Rattle.walks.specs.Check.{onSides, inNet, successors, predecessors, outside, lost, unansweredOn, unanswered, lowestMember, checkSays, checkMeans}
 use Rattle.walks.specs.declared.CheckAnswer.the-variants.{Passed, Refused}
 
 -- a net with sets put on one side
@@ -38,5 +38,5 @@ loop = puts (puts (puts (puts (freshNet 0 2) Output 0 (2 ∷ [])) Input 1 (1 ∷
 says :
     map checkSays (F ∷ named-only ∷ twice ∷ loop ∷ freshNet 7 3 ∷ freshNet 3 3 ∷ [])
     ≡ map checkMeans (Passed 4 ∷ Refused 6 5 ∷ Passed 4 ∷ Passed 3 ∷ Refused 6 3 ∷ Refused 2 0 ∷ [])
-unfolding F named-only twice loop puts freshNet putGives grows putSays sideSays misplaced insert listed checkSays lowestMember lost outside successors predecessors inNet onSides reach rounds oneRound unionFrom rows rowsFrom arcs arc names named those thoseBelow withIf sumBelow number anyBelow orderly sized endsOk sidesOk blockOk allBelow ascendsAbove zeros members membersFrom keep union single member bit
+unfolding F named-only twice loop puts freshNet putGives grows putSays sideSays misplaced insert listed checkSays lowestMember lost unanswered unansweredOn outside successors predecessors inNet onSides reach rounds oneRound unionFrom rows rowsFrom arcs arc names named those thoseBelow withIf sumBelow number anyBelow orderly sized endsOk sidesOk blockOk allBelow ascendsAbove zeros members membersFrom keep union single member bit
 says = refl

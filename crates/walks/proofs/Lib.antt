@@ -7,6 +7,7 @@ pub mod SiftLaws
 pub mod LinkLaws
 pub mod ArcLaws
 pub mod WalkLaws
+pub mod NoneInLaws
 pub mod CheckLaws
 pub mod GrowLaws
 pub mod Theorems

@@ -1,5 +1,6 @@
 -- The rows that are made of a net's arrays are the net's arcs, and their members are as many as it has arcs: a union has what
--- is named in one of its sets, and rows with the same members are the same. Assumes nothing.
+-- is named in one of its sets, and rows with the same members are the same. A row of names has a member that the row of arcs lacks
+-- exactly if that name isn't answered. Assumes nothing.
 use Prim.Native.Nat.{ℕ, zero, suc, _^_, _<_}
 use mathlib.Core.Path.{_≡_, refl, sym, ap, ap₂, _∙_}
 use mathlib.Core.Logic.{⊎-elim}
@@ -13,15 +14,15 @@ use Rattle.obligations.specs.Tests.{number}
 use Rattle.obligations.specs.Sets.{member, single, union, minus, size}
 use Rattle.obligations.proofs.BoolLaws.{false-not-true, same-test, or-left, or-right, or-cases}
 use Rattle.obligations.proofs.SetLaws.{member-single, member-union, member-minus, member-with, union-lt, minus-lt}
-use Rattle.net.specs.Sides.{masksOf, lengthsOf, sideIn, setsOn}
+use Rattle.net.specs.Sides.{masksOf, lengthsOf, opposite, sideIn, setsOn}
 use Rattle.net.specs.declared.Net.{Net}
 use Rattle.net.specs.declared.Side.{Side}
 use Rattle.net.specs.declared.Side.the-variants.{Input, Output}
 use Rattle.walks.specs.Below.{anyBelow, those}
 use Rattle.walks.specs.Arcs.{named, names, arc, arcs}
 use Rattle.walks.specs.Rows.{has, rows, reach}
-use Rattle.walks.specs.Check.{onSides, inNet, successors, predecessors, outside, lost}
-use Rattle.walks.specs.Links.{unionOf, namedRows, linked, links, filled, sizes, RowSurvey, NetSurvey}
+use Rattle.walks.specs.Check.{onSides, inNet, successors, predecessors, outside, lost, unansweredOn, unanswered}
+use Rattle.walks.specs.Links.{unionOf, namedRows, linked, links, unlinked, filled, sizes, RowSurvey, NetSurvey}
 use Rattle.walks.specs.declared.Survey.{Survey}
 use Rattle.walks.proofs.BelowLaws.{any-true, true-any, any-ext, member-those-at, those-are, those-lt, sum-ext, size-those}
 use Rattle.walks.proofs.RowLaws.{rows-long, rows-at, rows-all, rows-ext, has-row, member-union-of, sizes-rows}
@@ -108,6 +109,45 @@ module _ (net : Net) where
   unfolding successors arcs
   sizes-successors = sizes-rows (λ p. those (λ q. arc net p q)) ∙ sum-ext 32 (λ p. size (those (λ q. arc net p q))) (λ p. number 32 (λ q. arc net p q)) (λ p h. size-those (λ q. arc net p q))
 
+  -- ---- names that aren't answered
+
+  -- the rows of arcs from one kind of side
+  abbrev pub linksOn : Side → List ℕ
+  linksOn side = links (rowsOn net side) (rowsOn net (opposite side))
+
+  has-link : (side : Side) (a b : ℕ) → a < 32 → b < 32 → has (linksOn side) a b ≡ names net side a b && names net (opposite side) b a
+  has-link side a b h l =
+      ap (λ (r : List ℕ). has r a b) (link-rows side (opposite side) (λ c d. names net side c d && names net (opposite side) d c) (λ c d. refl))
+      ∙ has-row (λ c. those (λ d. names net side c d && names net (opposite side) d c)) a b h
+      ∙ member-those-at (λ d. names net side a d && names net (opposite side) d a) b l
+
+  member-unlinked : (side : Side) (a : ℕ) → a < 32 → member (unlinked (rowsOn net side) (linksOn side)) a ≡ unansweredOn net side a
+  unfolding unlinked unansweredOn
+  member-unlinked side a h =
+      member-those-at (λ c. anyBelow 32 (λ b. has (rowsOn net side) c b && not (has (linksOn side) c b))) a h
+      ∙ any-ext 32 (λ b. has (rowsOn net side) a b && not (has (linksOn side) a b)) (λ b. names net side a b && not (names net (opposite side) b a))
+      (λ b l. ap₂ (λ (s t : Bool). s && not t) (has-named side a b h) (has-link side a b h l) ∙ unless-both (names net side a b) (names net (opposite side) b a))
+    where
+      unless-both : (s t : Bool) → s && not (s && t) ≡ s && not t
+      unless-both true t = refl
+      unless-both false t = refl
+
+  unlinked-lt : (side : Side) → unlinked (rowsOn net side) (linksOn side) < 2 ^ 32
+  unfolding unlinked
+  unlinked-lt side = those-lt _
+
+  pub unlinked-unanswered : union (unlinked (rowsOn net Input) (linksOn Input)) (unlinked (rowsOn net Output) (linksOn Output)) ≡ unanswered net
+  unfolding unanswered
+  unlinked-unanswered =
+      let i = unlinked (rowsOn net Input) (linksOn Input) in
+      let o = unlinked (rowsOn net Output) (linksOn Output) in
+      those-are (λ a. unansweredOn net Input a || unansweredOn net Output a) (union i o) (union-lt i o (unlinked-lt Input) (unlinked-lt Output))
+      (λ k l. member-union i o k ∙ ap₂ (λ (s t : Bool). s || t) (member-unlinked Input k l) (member-unlinked Output k l))
+
+  pub unanswered-lt : unanswered net < 2 ^ 32
+  unfolding unanswered
+  unanswered-lt = those-lt _
+
   -- ---- the net's activities, and those outside one of two sets
 
   pub member-set-of : (k : ℕ) → k < 32 → net .start < 32 → net .end < 32 → member (setOf net) k ≡ inNet net k
@@ -155,6 +195,7 @@ module _ (net : Net) where
         w .lost-are
         ∙ ap₂ (λ (n p : List ℕ). union (minus (setOf net) (reach n (net .start))) (minus (setOf net) (reach p (net .end)))) links-successors links-predecessors
         ∙ outside-are (setOf net) (reach (successors net) (net .start)) (reach (predecessors net) (net .end)) h (reach-lt (successors net) successors-small (net .start)) (reach-lt (predecessors net) predecessors-small (net .end)) (λ k l. member-set-of k l hs he);
+    unanswered-are = w .unanswered-are ∙ unlinked-unanswered;
     arcs-are = w .arcs-are ∙ ap sizes links-successors ∙ sizes-successors;
   }
 

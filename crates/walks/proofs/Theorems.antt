@@ -1,5 +1,5 @@
--- The statements of specs/Statements.antt. That no refusal holds is that nothing is lost, which is that the net passes; the rest is
--- read off the check's chain. Assumes nothing.
+-- The statements of specs/Statements.antt. That no refusal holds is that nothing is lost or unanswered, which is that the net passes;
+-- the rest is read off the check's chain. Assumes nothing.
 use mathlib.Core.Path.{_≡_, sym, ap, _∙_}
 use Rattle.net.specs.Refusals.{Says, accepted}
 use Rattle.net.specs.declared.Net.{Net}
@@ -8,9 +8,9 @@ use Rattle.net.proofs.SentenceLaws.{told-accepted}
 use Rattle.walks.specs.Arcs.{arcs}
 use Rattle.walks.specs.Walk.{Passes}
 use Rattle.walks.specs.Check.{checkRefusals, checkSays}
-use Rattle.walks.specs.Statements.{ArcTestRight, CheckListed, NoneHoldsPasses, PassingAccepted, WalksGrow}
+use Rattle.walks.specs.Statements.{ArcTestRight, CheckListed, NoneHoldsPasses, PassingAccepted, ArcsOnEitherSide, WalksGrow}
 use Rattle.walks.proofs.ArcLaws.{arc-facts}
-use Rattle.walks.proofs.CheckLaws.{says-none-lost, passes-none-lost, check-listed, check-told, said-passes}
+use Rattle.walks.proofs.CheckLaws.{says-clear, passes-clear, check-listed, check-told, said-passes}
 use Rattle.walks.proofs.GrowLaws.{arcs-grow, walk-grows}
 
 pub arc-test-right : ArcTestRight
@@ -21,7 +21,7 @@ check-as-listed = check-listed
 
 -- what is said of a net that passes
 pub passes-says : (net : Net) → Passes net → checkSays net ≡ accepted (arcs net)
-passes-says net p = let o = facts-orderly net (p .is-orderly) in says-none-lost net o (passes-none-lost net o p)
+passes-says net p = let o = facts-orderly net (p .is-orderly) in says-clear net o (passes-clear net o p)
 
 pub passing-accepted : PassingAccepted
 passing-accepted net n = (
@@ -33,6 +33,13 @@ pub none-holds-passes : NoneHoldsPasses
 none-holds-passes net =
     let t = told-accepted (checkRefusals net) (arcs net) (check-told net) in
     ((λ none. said-passes net (ap (λ (s : Says). s .ok) (t .1 none))), (λ p. t .0 (passes-says net p)))
+
+pub arcs-on-either-side : ArcsOnEitherSide
+arcs-on-either-side net s p q hp hq =
+    let a = s .answered p q hp hq in (
+      ((λ c. c .in-input), (λ n. record { in-input = n; in-output = a .0 n })),
+      ((λ c. c .in-output), (λ n. record { in-input = a .1 n; in-output = n })),
+    )
 
 pub walks-grow : WalksGrow
 walks-grow net other o c a b = (arcs-grow net other o c a b, (λ w. walk-grows net other o c w))

@@ -1,22 +1,22 @@
--- What the net check says (01, "Net check and judge"; refusals 2 and 6).
-use Prim.Native.Nat.{ℕ}
+-- What the net check says (01, "Net check and judge"; 02, (iv); refusals 2, 6 and 19).
+use Prim.Native.Nat.{ℕ, _<_}
 use mathlib.Core.Bool.{Bool, not, _&&_, _||_}
 use mathlib.Core.List.{List, [], _∷_}
 use lib.Dec.{eqb}
 use lib.ListN.{getD}
 use Rattle.obligations.specs.Limits.{activities}
 use Rattle.obligations.specs.Sets.{member, members}
-use Rattle.net.specs.Refusals.{Says, accepted, refused, disorderly, on-no-walk}
+use Rattle.net.specs.Refusals.{Says, accepted, refused, disorderly, on-no-walk, name-unanswered}
 use Rattle.net.specs.Sentences.{Sentence, lowest}
 use Rattle.net.specs.Chains.{unless, unlessAt}
-use Rattle.net.specs.Sides.{lengthsOf}
+use Rattle.net.specs.Sides.{lengthsOf, opposite}
 use Rattle.net.specs.Orderly.{orderly}
 use Rattle.net.specs.Common.{notOrderly}
 use Rattle.net.specs.declared.Net.{Net}
 use Rattle.net.specs.declared.Side.{Side}
 use Rattle.net.specs.declared.Side.the-variants.{Input, Output}
 use Rattle.walks.specs.Below.{anyBelow, those}
-use Rattle.walks.specs.Arcs.{names, arc, arcs}
+use Rattle.walks.specs.Arcs.{Names, names, arc, arcs}
 use Rattle.walks.specs.Walk.{InNet, OnWalk}
 use Rattle.walks.specs.Rows.{rows, reach}
 use Rattle.walks.specs.declared.CheckAnswer.{CheckAnswer}
@@ -36,8 +36,19 @@ Lost net a = InNet net a × (OnWalk net a → ⊥)
 abbrev pub onNoWalk : Net → Sentence
 onNoWalk net = lowest on-no-walk (Lost net)
 
+-- 19: a set of a names an activity whose opposite side never names a back; the lowest such a is returned
+pub record Unanswered (net : Net) (a : ℕ) : Type 0 where
+  pub side : Side
+  pub named-one : ℕ
+  pub an-activity : named-one < activities
+  pub names-it : Names net side a named-one
+  pub never-back : Names net (opposite side) named-one a → ⊥
+
+abbrev pub nameUnanswered : Net → Sentence
+nameUnanswered net = lowest name-unanswered (Unanswered net)
+
 abbrev pub checkRefusals : Net → List Sentence
-checkRefusals net = notOrderly net ∷ onNoWalk net ∷ []
+checkRefusals net = notOrderly net ∷ onNoWalk net ∷ nameUnanswered net ∷ []
 
 -- ---- what is said
 
@@ -64,13 +75,25 @@ outside net from to = those (λ a. inNet net a && not (member from a && member t
 unfoldable pub lost : Net → ℕ
 lost net = outside net (reach (successors net) (net .start)) (reach (predecessors net) (net .end))
 
+-- a names an activity in a set on its side of this kind that never names it back in one on the opposite side
+unfoldable pub unansweredOn : Net → Side → ℕ → Bool
+unansweredOn net side a = anyBelow activities (λ k. names net side a k && not (names net (opposite side) k a))
+
+-- the activities that name one which never names them back
+unfoldable pub unanswered : Net → ℕ
+unanswered net = those (λ a. unansweredOn net Input a || unansweredOn net Output a)
+
 -- the lowest member of a set
 unfoldable pub lowestMember : ℕ → ℕ
 lowestMember m = getD (members m) 0 0
 
--- the rest of a chain if every activity of the net is on a walk, else refusal 6 with the lowest that isn't
-abbrev pub onWalks : Net → Says → Says
-onWalks net rest = unlessAt (eqb (lost net) 0) on-no-walk (lowestMember (lost net)) rest
+-- the rest of a chain if the set has no member, else the refusal n with its lowest
+abbrev pub noneIn : ℕ → ℕ → Says → Says
+noneIn m n rest = unlessAt (eqb m 0) n (lowestMember m) rest
+
+-- the rest of a chain if an orderly net passes, else refusal 6 or 19
+abbrev pub passing : Net → Says → Says
+passing net rest = noneIn (lost net) on-no-walk (noneIn (unanswered net) name-unanswered rest)
 
 unfoldable pub checkSays : Net → Says
-checkSays net = unless (orderly net) disorderly (onWalks net (accepted (arcs net)))
+checkSays net = unless (orderly net) disorderly (passing net (accepted (arcs net)))

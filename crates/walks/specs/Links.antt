@@ -8,10 +8,11 @@ use lib.ListN.{getD}
 use Rattle.obligations.specs.Sets.{member, union, minus, size}
 use Rattle.net.specs.Sides.{sideIn}
 use Rattle.net.specs.declared.Net.{Net}
-use Rattle.walks.specs.Below.{those}
+use Rattle.obligations.specs.Limits.{activities}
+use Rattle.walks.specs.Below.{anyBelow, those}
 use Rattle.walks.specs.Arcs.{arcs}
 use Rattle.walks.specs.Rows.{has, rows, unionFrom, reach}
-use Rattle.walks.specs.Check.{lost}
+use Rattle.walks.specs.Check.{lost, unanswered}
 use Rattle.walks.specs.declared.Survey.{Survey}
 
 -- the members of each of the sets
@@ -30,6 +31,10 @@ linked m other a = those (λ b. member m b && has other b a)
 unfoldable pub links : List ℕ → List ℕ → List ℕ
 links own other = rows (λ a. linked (getD own a 0) other a)
 
+-- the activities whose row has a member that their row of links lacks
+unfoldable pub unlinked : List ℕ → List ℕ → ℕ
+unlinked own linkRows = those (λ a. anyBelow activities (λ b. has own a b && not (has linkRows a b)))
+
 -- the activities whose lists are not empty
 unfoldable pub filled : List ℕ → ℕ
 filled lengths = those (λ a. not (eqb (getD lengths a 0) 0))
@@ -40,12 +45,15 @@ sizes [] = 0
 sizes (m ∷ ms) = size m + sizes ms
 
 -- what is found from the rows of those named on each activity's sides: the members of a set that are on no walk from start to
--- end, and the number of arcs
+-- end, the activities with a name that isn't answered, and the number of arcs
 pub record RowSurvey (inputs outputs : List ℕ) (start end all : ℕ) (r : Survey) : Type 0 where
   pub lost-are : r .lost ≡ union (minus all (reach (links outputs inputs) start)) (minus all (reach (links inputs outputs) end))
+  pub unanswered-are : r .unanswered ≡ union (unlinked inputs (links inputs outputs)) (unlinked outputs (links outputs inputs))
   pub arcs-are : r .arcs ≡ sizes (links outputs inputs)
 
--- what the check finds of an orderly net: its activities on no walk, and the number of its arcs
+-- what the check finds of an orderly net: its activities on no walk, those that name one which never names them back, and the
+-- number of its arcs
 pub record NetSurvey (net : Net) (r : Survey) : Type 0 where
   pub lost-are : r .lost ≡ lost net
+  pub unanswered-are : r .unanswered ≡ unanswered net
   pub arcs-are : r .arcs ≡ arcs net

@@ -1,13 +1,16 @@
--- What is proved of the net check (01, "Net check and judge"): the definitions that compute say what the paper's sentences say.
-use Prim.Native.Nat.{ℕ}
+-- What is proved of the net check (01, "Net check and judge"; 02, (iv)): the definitions that compute say what the papers' sentences
+-- say.
+use Prim.Native.Nat.{ℕ, _<_}
 use mathlib.Core.Path.{_≡_}
 use mathlib.Core.Logic.{_↔_}
 use mathlib.Core.Bool.{true}
+use Rattle.obligations.specs.Limits.{activities}
 use Rattle.net.specs.Sentences.{NoneHolds, AsListed}
 use Rattle.net.specs.Orderly.{Orderly}
 use Rattle.net.specs.Contained.{Contained}
 use Rattle.net.specs.declared.Net.{Net}
-use Rattle.walks.specs.Arcs.{Arc, arc, arcs}
+use Rattle.net.specs.declared.Side.the-variants.{Input, Output}
+use Rattle.walks.specs.Arcs.{Names, Arc, arc, arcs}
 use Rattle.walks.specs.Walk.{Walk, Passes}
 use Rattle.walks.specs.Check.{checkMeans, checkRefusals, checkSays}
 use Rattle.walks.specs.declared.CheckAnswer.the-variants.{Passed, Refused}
@@ -17,7 +20,7 @@ abbrev pub ArcTestRight : Type 0
 ArcTestRight = (net : Net) (p q : ℕ) → (arc net p q ≡ true) ↔ Arc net p q
 
 -- the check is refused exactly as its sentences are listed: 2 of a record that isn't orderly, else 6 with the lowest activity that
--- is on no walk
+-- is on no walk, else 19 with the lowest that names one which never names it back
 abbrev pub CheckListed : Type 0
 CheckListed = (net : Net) → AsListed (λ n p. checkMeans (Refused n p)) (checkRefusals net) (checkSays net)
 
@@ -27,6 +30,10 @@ NoneHoldsPasses = (net : Net) → NoneHolds (checkRefusals net) ↔ Passes net
 
 abbrev pub PassingAccepted : Type 0
 PassingAccepted = (net : Net) (n : ℕ) → (checkSays net ≡ checkMeans (Passed n)) ↔ (Passes net × (n ≡ arcs net))
+
+-- the arcs of a net that passes are read from its input sets as from its output sets (003, Definition 1)
+abbrev pub ArcsOnEitherSide : Type 0
+ArcsOnEitherSide = (net : Net) → Passes net → (p q : ℕ) → p < activities → q < activities → (Arc net p q ↔ Names net Input q p) × (Arc net p q ↔ Names net Output p q)
 
 -- arcs and walks of a net are arcs and walks of each net that it is contained in
 abbrev pub WalksGrow : Type 0

@@ -1,11 +1,13 @@
--- Walks along arcs, and the nets that pass the check (01, "Net check and judge").
+-- Walks along arcs, and the nets that pass the check (01, "Net check and judge"; 02, (iv)).
 use Prim.Native.Nat.{ℕ, _<_}
 use mathlib.Core.Path.{_≡_}
+use mathlib.Core.Logic.{_↔_}
 use Rattle.obligations.specs.Limits.{activities}
 use Rattle.net.specs.Sides.{OnSide}
 use Rattle.net.specs.Orderly.{Orderly}
 use Rattle.net.specs.declared.Net.{Net}
 use Rattle.net.specs.declared.Side.{Side}
+use Rattle.net.specs.declared.Side.the-variants.{Input, Output}
 use Rattle.walks.specs.Arcs.{Names, Arc}
 
 -- the second number is reached from the first by steps, none or more; a number may be visited more than once
@@ -29,7 +31,9 @@ pub record OnWalk (net : Net) (a : ℕ) : Type 0 where
   pub from-start : Walk net (net .start) a
   pub to-end : Walk net a (net .end)
 
--- the net passes: it is orderly, and each of its activities is on a walk from start to end
+-- the net passes: it is orderly, each of its activities is on a walk from start to end, and every name is answered: p is in some
+-- input set of q exactly if q is in some output set of p (003, Definition 1, where both are the relation D)
 pub record Passes (net : Net) : Type 0 where
   pub is-orderly : Orderly net
   pub on-walks : (a : ℕ) → InNet net a → OnWalk net a
+  pub answered : (p q : ℕ) → p < activities → q < activities → Names net Input q p ↔ Names net Output p q

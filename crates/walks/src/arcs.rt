@@ -11,7 +11,7 @@ ghost use lib.Count.{trailingZeros};
 ghost use Rattle.obligations.specs.Limits.{activities};
 ghost use Rattle.obligations.specs.Sets.{single, minus};
 ghost use Rattle.net.specs.Inner.{Sides};
-ghost use Rattle.walks.specs.Links.{unionOf, namedRows, linked, links, filled, sizes};
+ghost use Rattle.walks.specs.Links.{unionOf, namedRows, linked, links, unlinked, filled, sizes};
 
 // The members of all the sets.
 pub fn union_of(masks: &[u32]) -> u32
@@ -82,6 +82,23 @@ pub fn links<'a>(own: &'a [u32], other: &'a [u32]) -> [u32; LISTS]
         a += 1;
     }
     rows
+}
+
+// The activities whose own row has a member that their row of links lacks.
+pub fn unlinked<'a>(own: &'a [u32], links: &'a [u32]) -> u32
+    requires { ⌜ (length (now own) ≡ activities) × (length (now links) ≡ activities) ⌝ }
+    ensures { λ r. ⌜ r ≡ unlinked (now (own .entry)) (now (links .entry)) ⌝ }
+{
+    let mut all: u32 = 0;
+    let mut a: u32 = 0;
+    while a < ACTIVITIES {
+        let i = a as usize;
+        if sets::minus(own[i], links[i]) != 0 {
+            all = sets::with(all, a);
+        }
+        a += 1;
+    }
+    all
 }
 
 // The activities whose lists are not empty.

@@ -1,4 +1,5 @@
-// The net check (paper 01, "Net check and judge"): whether each activity of a net is on a walk along arcs from start to end.
+// The net check (paper 01, "Net check and judge"; paper 02, (iv)): whether each activity of a net is on a walk along arcs from start
+// to end, and every name is answered.
 
 mod arcs;
 mod reach;
@@ -13,9 +14,11 @@ ghost use mathlib.Core.Bool.{true};
 ghost use lib.ListN.{length};
 ghost use Rattle.obligations.specs.Limits.{activities};
 ghost use Rattle.obligations.specs.Sets.{union};
+ghost use Rattle.net.specs.Refusals.{accepted};
 ghost use Rattle.net.specs.Orderly.{orderly};
+ghost use Rattle.walks.specs.Arcs.{arcs};
 ghost use Rattle.walks.specs.Links.{unionOf, filled, RowSurvey, NetSurvey};
-ghost use Rattle.walks.specs.Check.{checkMeans, checkSays};
+ghost use Rattle.walks.specs.Check.{checkMeans, passing, checkSays};
 
 // Passed: the number of arcs. Refused: the refusal's number and the place that is returned with it.
 pub enum CheckAnswer {
@@ -23,9 +26,11 @@ pub enum CheckAnswer {
     Refused { number: u32, place: u32 },
 }
 
-// The activities of a net that are on no walk from start to end, and the number of its arcs.
+// The activities of a net that are on no walk from start to end, those that name one which never names them back, and the
+// number of its arcs.
 pub struct Survey {
     pub lost: u32,
+    pub unanswered: u32,
     pub arcs: u32,
 }
 
@@ -39,6 +44,14 @@ pub fn check(net: Net) -> CheckAnswer
             place: 0,
         };
     }
+    check_orderly(net)
+}
+
+// The check of an orderly net. Callers that have tested the record call this.
+pub fn check_orderly(net: Net) -> CheckAnswer
+    requires { ⌜ orderly net ≡ true ⌝ }
+    ensures { λ r. ⌜ checkMeans r ≡ passing net (accepted (arcs net)) ⌝ }
+{
     let survey = survey_net(net);
     let lost = survey.lost;
     if lost != 0 {
@@ -47,11 +60,18 @@ pub fn check(net: Net) -> CheckAnswer
             place: u32::trailing_zeros(lost),
         };
     }
+    let unanswered = survey.unanswered;
+    if unanswered != 0 {
+        return CheckAnswer::Refused {
+            number: refusal::NAME_UNANSWERED,
+            place: u32::trailing_zeros(unanswered),
+        };
+    }
     CheckAnswer::Passed { arcs: survey.arcs }
 }
 
-// What the check finds of an orderly net. Callers that have tested the record call this.
-pub fn survey_net(net: Net) -> Survey
+// What the check finds of an orderly net.
+fn survey_net(net: Net) -> Survey
     requires { ⌜ orderly net ≡ true ⌝ }
     ensures { λ r. ⌜ NetSurvey net r ⌝ }
 {
@@ -74,8 +94,7 @@ fn on_sides<'a>(named: &'a [u32], lengths: &'a [u32]) -> u32
     sets::union(arcs::filled(lengths), arcs::union_of(named))
 }
 
-// The members of a set that are on no walk from start to end, where the rows have those named on each activity's sides, and
-// the number of arcs.
+// The same, where the rows have those named on each activity's sides, and the set has the net's activities.
 fn survey_rows<'a>(inputs: &'a [u32], outputs: &'a [u32], start: u32, end: u32, all: u32) -> Survey
     requires { ⌜ (length (now inputs) ≡ activities) × (length (now outputs) ≡ activities) ⌝ }
     requires { ⌜ (start < activities) × (end < activities) ⌝ }
@@ -87,6 +106,7 @@ fn survey_rows<'a>(inputs: &'a [u32], outputs: &'a [u32], start: u32, end: u32, 
     let to = reach::reach(&back, end);
     Survey {
         lost: sets::union(sets::minus(all, from), sets::minus(all, to)),
+        unanswered: sets::union(arcs::unlinked(inputs, &back), arcs::unlinked(outputs, &next)),
         arcs: arcs::sizes(&next),
     }
 }

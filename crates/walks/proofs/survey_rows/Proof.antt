@@ -30,6 +30,21 @@ minus-requires-2 c κs = search needs
 union-requires : tie.Need-union-requires
 union-requires c κs = search needs
 
+slice-aggregate-unlinked : tie.Need-slice-aggregate-unlinked
+slice-aggregate-unlinked c = search needs
+
+unlinked-requires : tie.Need-unlinked-requires
+unlinked-requires c κs = search needs
+
+slice-aggregate-unlinked-2 : tie.Need-slice-aggregate-unlinked-2
+slice-aggregate-unlinked-2 c = search needs
+
+unlinked-requires-2 : tie.Need-unlinked-requires-2
+unlinked-requires-2 c κs = search needs
+
+union-requires-2 : tie.Need-union-requires-2
+union-requires-2 c κs = search needs
+
 slice-aggregate-sizes : tie.Need-slice-aggregate-sizes
 slice-aggregate-sizes c = search needs
 
@@ -38,7 +53,10 @@ sizes-requires c κs = search needs
 
 returns : tie.Need-returns
 returns c =
-    let after-union = c .before .before in
+    let after-union2 = c .before .before in
+    let after-unlinked2 = after-union2 .before in
+    let after-unlinked = after-unlinked2 .before .before in
+    let after-union = after-unlinked .before .before in
     let after-minus = after-union .before .before in
     let after-to = after-minus .before in
     let after-from = after-to .before .before in
@@ -50,8 +68,11 @@ returns c =
     let f = after-from .reach .ensures in
     let k = after-links2 .links2 .ensures in
     let l = after-links2 .before .links .ensures in
+    let x = after-union2 .union2 .ensures in
+    let y = after-unlinked .unlinked .ensures in
+    let w = after-unlinked2 .unlinked2 .ensures in
     let z = c .sizes .ensures in
-    record { lost-are = cc (u, m, n, t, f, k, l); arcs-are = cc (z, l) }
+    record { lost-are = cc (u, m, n, t, f, k, l); unanswered-are = cc (x, y, w, k, l); arcs-are = cc (z, l) }
 
 pub survey-rows-spec : {M : Type 1} → statement M
 survey-rows-spec =
@@ -66,6 +87,11 @@ survey-rows-spec =
     minus-requires
     minus-requires-2
     union-requires
+    slice-aggregate-unlinked
+    unlinked-requires
+    slice-aggregate-unlinked-2
+    unlinked-requires-2
+    union-requires-2
     slice-aggregate-sizes
     sizes-requires
     returns)
