@@ -7,7 +7,7 @@
 use Prim.Native.Nat.{ℕ, zero, suc, _≤_, _<_}
 use mathlib.Core.Path.{_≡_, refl, sym, ap, subst, _∙_}
 use mathlib.Core.Bool.{Bool, true, false, cond, _&&_}
-use mathlib.Core.List.{List, [], _∷_}
+use mathlib.Core.List.{List, [], _∷_, _++_}
 use mathlib.Core.Logic.{_↔_, _⊎_, inl, inr, ⊎-elim}
 use native.Mathlib.Omega.{arith}
 use borrow.Author.Tests.{ne-eqb, ltb-true}
@@ -94,6 +94,60 @@ order-first rank k (s ∷ ss) a n p (inl o) m q l (inr h) =
     let e : rank (numberOf s) ≡ rank n = ap rank (o .0) in omega arith
 order-first rank k (s ∷ ss) a n p (inr o) m q l (inl h) = o .0 q (h .1)
 order-first rank k (s ∷ ss) a n p (inr o) m q l (inr h) = order-first rank (rank (numberOf s)) ss (and-right (ltb k (rank (numberOf s))) _ a) n p (o .1) m q l h
+
+-- ---- one sentence of a list, with those before and after it
+
+holds-either : (before after : List Sentence) (n p : ℕ) → Holds (before ++ after) n p → Holds before n p ⊎ Holds after n p
+holds-either [] after n p h = inr h
+holds-either (s ∷ ss) after n p (inl h) = inl (inl h)
+holds-either (s ∷ ss) after n p (inr h) = ⊎-elim (λ b. inl (inr b)) inr (holds-either ss after n p h)
+
+either-holds : (before after : List Sentence) (n p : ℕ) → Holds before n p ⊎ Holds after n p → Holds (before ++ after) n p
+either-holds [] after n p (inl h) = absurd h
+either-holds [] after n p (inr h) = h
+either-holds (s ∷ ss) after n p (inl (inl h)) = inl h
+either-holds (s ∷ ss) after n p (inl (inr h)) = inr (either-holds ss after n p (inl h))
+either-holds (s ∷ ss) after n p (inr h) = inr (either-holds ss after n p (inr h))
+
+module _ (rank : ℕ → ℕ) (s : Sentence) (after : List Sentence) where
+  above-before : (k : ℕ) (before : List Sentence) → ascends rank k (before ++ (s ∷ after)) ≡ true → k < rank (numberOf s)
+  above-before k [] a = ltb-true k (rank (numberOf s)) (and-left (ltb k (rank (numberOf s))) _ a)
+  above-before k (b ∷ bs) a =
+      let l = ltb-true k (rank (numberOf b)) (and-left (ltb k (rank (numberOf b))) _ a) in
+      let m = above-before (rank (numberOf b)) bs (and-right (ltb k (rank (numberOf b))) _ a) in omega arith
+
+  before-lower : (k : ℕ) (before : List Sentence) → ascends rank k (before ++ (s ∷ after)) ≡ true → (n p : ℕ) → Holds before n p → rank n < rank (numberOf s)
+  before-lower k [] a n p h = absurd h
+  before-lower k (b ∷ bs) a n p (inl h) = rw (← h .0) (above-before (rank (numberOf b)) bs (and-right (ltb k (rank (numberOf b))) _ a))
+  before-lower k (b ∷ bs) a n p (inr h) = before-lower (rank (numberOf b)) bs (and-right (ltb k (rank (numberOf b))) _ a) n p h
+
+  after-higher : (k : ℕ) (before : List Sentence) → ascends rank k (before ++ (s ∷ after)) ≡ true → (n p : ℕ) → Holds after n p → rank (numberOf s) < rank n
+  after-higher k [] a n p h = holds-above rank (rank (numberOf s)) after (and-right (ltb k (rank (numberOf s))) _ a) n p h
+  after-higher k (b ∷ bs) a n p h = after-higher (rank (numberOf b)) bs (and-right (ltb k (rank (numberOf b))) _ a) n p h
+
+-- a refusal of a list in the papers' order is given exactly if none before it holds and it does
+pub given-exactly : (before : List Sentence) (s : Sentence) (after : List Sentence) → ascends orderOf 0 (before ++ (s ∷ after)) ≡ true
+    → (place : ℕ) → IsGiven (before ++ (s ∷ after)) (numberOf s) place ↔ (NoneHolds before × HoldsAt s place)
+given-exactly before s after a place = (
+  (λ g. (
+    (λ n p h. g .none-before n p (before-lower orderOf s after 0 before a n p h) (either-holds before (s ∷ after) n p (inl h))),
+    here (holds-either before (s ∷ after) (numberOf s) place (g .holds)),
+  )),
+  (λ w. record {
+    holds = either-holds before (s ∷ after) (numberOf s) place (inr (inl (refl, w .1)));
+    none-before = λ n p l h. earlier (w .0) n p l (holds-either before (s ∷ after) n p h);
+  }),
+)
+  where
+    here : Holds before (numberOf s) place ⊎ Holds (s ∷ after) (numberOf s) place → HoldsAt s place
+    here (inl h) = let l = before-lower orderOf s after 0 before a (numberOf s) place h in absurd (omega arith)
+    here (inr (inl h)) = h .1
+    here (inr (inr h)) = let l = after-higher orderOf s after 0 before a (numberOf s) place h in absurd (omega arith)
+
+    earlier : NoneHolds before → (n p : ℕ) → orderOf n < orderOf (numberOf s) → Holds before n p ⊎ Holds (s ∷ after) n p → ⊥
+    earlier none n p l (inl h) = none n p h
+    earlier none n p l (inr (inl h)) = let e : orderOf (numberOf s) ≡ orderOf n = ap orderOf (h .0) in omega arith
+    earlier none n p l (inr (inr h)) = let m = after-higher orderOf s after 0 before a n p h in omega arith
 
 -- of sentences about a whole line the one that holds has place 0
 whole-places : (ss : List Sentence) → allWhole ss ≡ true → (n p : ℕ) → InOrder ss n p → p ≡ 0

@@ -3,25 +3,29 @@ use Prim.Native.Nat.{ℕ, _+_, _-_}
 use native.Mathlib.Omega.{arith}
 use mathlib.Core.Path.{_≡_, refl, sym, ap, subst, _∙_}
 use mathlib.Core.Bool.{true}
-use mathlib.Core.List.{List}
+use mathlib.Core.List.{List, [], _∷_}
 use mathlib.Core.Logic.{_↔_, inr}
 use lib.ListN.{length}
 use Rattle.obligations.specs.State.{nothing}
 use Rattle.obligations.specs.Sequence.{bindings, at, WellFormed}
 use Rattle.obligations.proofs.SequenceLaws.{length-bindings, each-possible-from}
-use Rattle.net.specs.Refusals.{Says, accepted}
+use Rattle.net.specs.Refusals.{Says, accepted, missing-set, name-unanswered}
+use Rattle.net.specs.Sentences.{first}
+use Rattle.net.specs.Common.{notOrderly, notActivities, notShaped}
 use Rattle.net.specs.Sides.{netSize}
 use Rattle.net.specs.Orderly.{orderly}
 use Rattle.net.specs.declared.Net.{Net}
 use Rattle.net.specs.declared.Side.the-variants.{Input, Output}
 use Rattle.net.proofs.OrderlyLaws.{orderly-facts, facts-orderly}
-use Rattle.net.proofs.SentenceLaws.{told-accepted, told-value, told-ok}
-use Rattle.sequences.specs.Run.{Peak, largestTotal}
+use Rattle.net.proofs.SentenceLaws.{given-exactly, told-accepted, told-value, told-ok}
+use Rattle.walks.specs.Check.{onNoWalk, nameUnanswered}
+use Rattle.sequences.specs.Limits.{activityOf, notSequence}
+use Rattle.sequences.specs.Run.{notPossible, leftOver, Peak, largestTotal}
 use Rattle.sequences.specs.Gain.{gained, fits}
 use Rattle.sequences.specs.Learn.{learnRefusals, newSets, learnSays, learnGives}
 use Rattle.sequences.specs.Follow.{followGives}
-use Rattle.sequences.specs.Judge.{judgeRefusals}
-use Rattle.sequences.specs.Statements.{LearnListed, FollowListed, JudgeListed, NoneHoldsLearnable, LearnAccepts, FitsTestRight, LearnHolds, LearnValid, RefusedSame, FollowLearns, Judgeable, NoneHoldsJudgeable, JudgeAccepts, LargestIsPeak, PeakWithin, PeakBelow}
+use Rattle.sequences.specs.Judge.{Missing, judgeRefusals}
+use Rattle.sequences.specs.Statements.{LearnListed, FollowListed, JudgeListed, JudgeUnanswered, NoneHoldsLearnable, LearnAccepts, FitsTestRight, LearnHolds, LearnValid, RefusedSame, FollowLearns, Judgeable, NoneHoldsJudgeable, JudgeAccepts, LargestIsPeak, PeakWithin, PeakBelow}
 use Rattle.sequences.proofs.AcceptLaws.{fits-formed, formed-possible, accepted-learnable, learnable-accepted}
 use Rattle.sequences.proofs.PeakLaws.{largest-exactly, peak-bounded, sizes-bounded}
 use Rattle.sequences.proofs.ValidLaws.{accepted-judgeable, judgeable-accepted}
@@ -39,6 +43,15 @@ follow-as-listed = follow-listed
 
 pub judge-as-listed : JudgeListed
 judge-as-listed = judge-listed
+
+pub judge-unanswered : JudgeUnanswered
+judge-unanswered net ws a =
+    let s = bindings ws in
+    let l = judge-listed net ws .refused-exactly name-unanswered a in
+    let g =
+    given-exactly (notOrderly net ∷ notSequence ws ∷ notActivities (length s) (activityOf s) ∷ onNoWalk net ∷ []) (nameUnanswered net)
+    (notShaped net (length s) (activityOf s) ∷ first missing-set (length s) (Missing net s) ∷ notPossible s ∷ leftOver s ∷ []) refl a in
+    ((λ e. g .0 (l .0 e)), (λ w. l .1 (g .1 w)))
 
 -- ---- learn
 

@@ -3,18 +3,22 @@
 use Prim.Native.Nat.{ℕ, _+_, _*_, _≤_, _<_}
 use mathlib.Core.Path.{_≡_}
 use mathlib.Core.Bool.{true}
-use mathlib.Core.List.{List}
+use mathlib.Core.List.{List, [], _∷_}
 use mathlib.Core.Logic.{_↔_}
 use lib.ListN.{length, getD}
 use Rattle.obligations.specs.Limits.{activities, masks, positions}
 use Rattle.obligations.specs.State.{nothing}
 use Rattle.obligations.specs.Sequence.{Binding, bindings, words, WellFormed}
-use Rattle.net.specs.Sentences.{NoneHolds, AsListed}
+use Rattle.net.specs.Refusals.{name-unanswered}
+use Rattle.net.specs.Sentences.{Lowest, NoneHolds, AsListed}
 use Rattle.net.specs.Sides.{netSize}
 use Rattle.net.specs.Orderly.{Orderly}
+use Rattle.net.specs.Common.{notOrderly, notActivities}
 use Rattle.net.specs.Valid.{Valid}
 use Rattle.net.specs.declared.Net.{Net}
 use Rattle.walks.specs.Walk.{Passes}
+use Rattle.walks.specs.Check.{onNoWalk, Unanswered}
+use Rattle.sequences.specs.Limits.{activityOf, notSequence}
 use Rattle.sequences.specs.Run.{totalAfter, Peak, largestTotal, outputSizes}
 use Rattle.sequences.specs.Gain.{Fits, Gains, fits}
 use Rattle.sequences.specs.Learn.{learnMeans, learnRefusals, learnSays, learnGives}
@@ -33,6 +37,14 @@ FollowListed = (net : Net) (trace : List ℕ) → AsListed (λ n p. learnMeans (
 
 abbrev pub JudgeListed : Type 0
 JudgeListed = (net : Net) (ws : List ℕ) → AsListed (λ n p. judgeMeans (judge.Refused n p)) (judgeRefusals net ws) (judgeSays net ws)
+
+-- judge says 19 exactly if none of 2, 3, 4 and 6 holds, with the lowest activity that names one which never names it back; what comes
+-- after it doesn't matter
+abbrev pub JudgeUnanswered : Type 0
+JudgeUnanswered =
+    (net : Net) (ws : List ℕ) (a : ℕ) → let s = bindings ws in
+    (judgeSays net ws ≡ judgeMeans (judge.Refused name-unanswered a))
+    ↔ (NoneHolds (notOrderly net ∷ notSequence ws ∷ notActivities (length s) (activityOf s) ∷ onNoWalk net ∷ []) × Lowest (Unanswered net) a)
 
 -- ---- learn
 

@@ -2,24 +2,26 @@
 -- ones exactly those with a name that isn't answered, and where both are empty the net passes. Assumes nothing.
 use Prim.Native.Nat.{ℕ, _<_}
 use mathlib.Core.Path.{_≡_, refl, sym, ap, _∙_}
-use mathlib.Core.Logic.{⊎-elim, _↔_}
+use mathlib.Core.Logic.{_⊎_, inl, inr, ⊎-elim, _↔_}
+use native.Mathlib.Decide.{ℕ-discrete as decEq}
 use mathlib.Core.Bool.{Bool, true, false, not, cond, _&&_, _||_}
 use mathlib.Core.List.{List, [], _∷_}
 use borrow.Author.Tests.{eq-eqb, not-true}
 use lib.Dec.{eqb}
 use Rattle.obligations.specs.Sets.{member}
 use Rattle.obligations.proofs.BoolLaws.{true-or-false, false-not-true, and-left, and-right, and-both, or-left, or-right, or-cases}
-use Rattle.obligations.proofs.SetLaws.{member-activity}
+use Rattle.obligations.proofs.SetLaws.{member-none, member-activity}
 use Rattle.net.specs.Refusals.{accepted, refused, on-no-walk, name-unanswered, Says, disorderly}
-use Rattle.net.specs.Sentences.{Sentence, AsListed}
+use Rattle.net.specs.Sentences.{Sentence, NoneHolds, AsListed}
 use Rattle.net.specs.Sides.{opposite}
-use Rattle.net.specs.Orderly.{orderly}
+use Rattle.net.specs.Orderly.{orderly, Orderly}
+use Rattle.net.specs.Common.{notOrderly}
 use Rattle.net.specs.declared.Net.{Net}
 use Rattle.net.specs.declared.Side.{Side}
 use Rattle.net.specs.declared.Side.the-variants.{Input, Output}
 use Rattle.net.proofs.OrderlyLaws.{orderly-facts, on-side-activity}
-use Rattle.net.proofs.SentenceLaws.{Told, told-end, chain-listed}
-use Rattle.net.proofs.CommonLaws.{orderly-link}
+use Rattle.net.proofs.SentenceLaws.{holds-whole, Told, told-end, chain-listed}
+use Rattle.net.proofs.CommonLaws.{orderly-some, orderly-link}
 use Rattle.net.proofs.ChainLaws.{unless-passes}
 use Rattle.walks.specs.Arcs.{Names, names, arcs}
 use Rattle.walks.specs.Walk.{InNet, the-start, the-end, with-a-set, in-a-set, OnWalk, Passes}
@@ -29,7 +31,7 @@ use Rattle.walks.proofs.BelowLaws.{any-true, true-any, member-those-at}
 use Rattle.walks.proofs.ArcLaws.{names-facts}
 use Rattle.walks.proofs.LinkLaws.{lost-lt, unanswered-lt}
 use Rattle.walks.proofs.WalkLaws.{names-activity, in-net-facts, on-walk-facts}
-use Rattle.walks.proofs.NoneInLaws.{Collects, empty-none, none-empty, none-in-link, none-in-passes}
+use Rattle.walks.proofs.NoneInLaws.{Collects, empty-none, none-empty, lowest-bad, none-in-link, none-in-passes}
 
 -- the check finds nothing in a net
 abbrev pub Clear : Net → Type 0
@@ -121,15 +123,15 @@ module _ (net : Net) (o : orderly net ≡ true) where
 
   -- ---- the nets that pass
 
+  none-lost-walks : lost net ≡ 0 → (a : ℕ) → InNet net a → OnWalk net a
+  none-lost-walks e a i = not-lost a (in-net-activity a i) (ap (λ (m : ℕ). member m a) e ∙ member-none a) i
+
   pub clear-passes : Clear net → Passes net
   clear-passes c = record {
     is-orderly = orderly-facts net o;
-    on-walks = on-walk;
+    on-walks = none-lost-walks (c .0);
     answered = λ p q hp hq. (names-back (c .1) Input q p hp, names-back (c .1) Output p q hq);
   }
-    where
-      on-walk : (a : ℕ) → InNet net a → OnWalk net a
-      on-walk a i = ⊎-elim (λ e. absurd (empty-none lost-collects (c .0) a (lost-collects .in-set a .0 e))) (λ e. not-lost a (in-net-activity a i) e i) (true-or-false (member (lost net) a))
 
   answers : Passes net → (side : Side) (a k : ℕ) → a < 32 → k < 32 → Names net side a k → Names net (opposite side) k a
   answers p Input a k ha hk = p .answered k a hk ha .0
@@ -190,6 +192,23 @@ check-told net =
 
 pub check-listed : (net : Net) → AsListed refused (checkRefusals net) (checkSays net)
 check-listed net = chain-listed (checkRefusals net) refl (arcs net) (check-told net)
+
+-- 2 and 6 don't hold exactly of an orderly net with all its activities on walks
+pub none-before-partners : (net : Net) → NoneHolds (notOrderly net ∷ onNoWalk net ∷ []) ↔ (Orderly net × ((a : ℕ) → InNet net a → OnWalk net a))
+none-before-partners net = (
+  (λ none.
+      let o = is-orderly none (true-or-false (orderly net)) in
+      (orderly-facts net o, none-lost-walks net o (none-lost none o (decEq (lost net) 0)))),
+  (λ w n p. ⊎-elim (λ h. h .1 .bad (w .0)) (⊎-elim (λ h. h .1 .bad .1 (w .1 p (h .1 .bad .0))) (λ h. h))),
+)
+  where
+    is-orderly : NoneHolds (notOrderly net ∷ onNoWalk net ∷ []) → (orderly net ≡ true) ⊎ (orderly net ≡ false) → orderly net ≡ true
+    is-orderly none (inl e) = e
+    is-orderly none (inr e) = absurd (none disorderly 0 (inl (refl, holds-whole (orderly-some net e))))
+
+    none-lost : NoneHolds (notOrderly net ∷ onNoWalk net ∷ []) → orderly net ≡ true → Dec (lost net ≡ 0) → lost net ≡ 0
+    none-lost none o (yes e) = e
+    none-lost none o (no d) = absurd (none on-no-walk (lowestMember (lost net)) (inr (inl (refl, lowest-bad (lost-collects net o) d))))
 
 -- a net of which the check says no refusal passes
 pub said-passes : (net : Net) → checkSays net .ok ≡ true → Passes net

@@ -40,3 +40,19 @@ says :
     ≡ map checkMeans (Passed 4 ∷ Refused 6 5 ∷ Passed 4 ∷ Passed 3 ∷ Refused 6 3 ∷ Refused 2 0 ∷ [])
 unfolding F named-only twice loop puts freshNet putGives grows putSays sideSays misplaced insert listed checkSays lowestMember lost unanswered unansweredOn outside successors predecessors inNet onSides reach rounds oneRound unionFrom rows rowsFrom arcs arc names named those thoseBelow withIf sumBelow number anyBelow orderly sized endsOk sidesOk blockOk allBelow ascendsAbove zeros members membersFrom keep union single member bit
 says = refl
+
+-- F with one more set, or with two: 1 names 2, without its partner and with it; 2 names 1 on its input side, or on its output side;
+-- 1 names itself on one side, and on both; 1 and 2 name the start
+partners :
+    map checkSays
+    (putGives F Output 1 4
+    ∷ putGives (putGives F Output 1 4) Input 2 2
+    ∷ putGives F Input 2 2
+    ∷ putGives F Output 2 2
+    ∷ putGives F Input 1 2
+    ∷ putGives (putGives F Input 1 2) Output 1 2
+    ∷ putGives (putGives F Output 2 1) Output 1 1
+    ∷ [])
+    ≡ map checkMeans (Refused 19 1 ∷ Passed 5 ∷ Refused 19 2 ∷ Refused 19 2 ∷ Refused 19 1 ∷ Passed 5 ∷ Refused 19 1 ∷ [])
+unfolding F freshNet putGives grows putSays sideSays misplaced insert listed checkSays lowestMember lost unanswered unansweredOn outside successors predecessors inNet onSides reach rounds oneRound unionFrom rows rowsFrom arcs arc names named those thoseBelow withIf sumBelow number anyBelow orderly sized endsOk sidesOk blockOk allBelow ascendsAbove zeros members membersFrom keep union single member bit
+partners = refl

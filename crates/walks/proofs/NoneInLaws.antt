@@ -41,7 +41,7 @@ module _ {m : ℕ} {Bad : ℕ → Type 0} (c : Collects m Bad) where
   pub none-empty : ((a : ℕ) → Bad a → ⊥) → m ≡ 0
   none-empty none = no-members m (c .small) (λ k h. ⊎-elim (λ e. absurd (none k (c .in-set k .0 e))) (λ e. e) (true-or-false (member m k)))
 
-  lowest-bad : (m ≡ 0 → ⊥) → Lowest Bad (lowestMember m)
+  pub lowest-bad : (m ≡ 0 → ⊥) → Lowest Bad (lowestMember m)
   lowest-bad n =
       let some : 0 < m = omega arith in
       rw (lowest-is m some (c .small))

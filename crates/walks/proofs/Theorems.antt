@@ -1,16 +1,18 @@
 -- The statements of specs/Statements.antt. That no refusal holds is that nothing is lost or unanswered, which is that the net passes;
 -- the rest is read off the check's chain. Assumes nothing.
-use mathlib.Core.Path.{_≡_, sym, ap, _∙_}
-use Rattle.net.specs.Refusals.{Says, accepted}
+use mathlib.Core.Path.{_≡_, refl, sym, ap, _∙_}
+use mathlib.Core.List.{[], _∷_}
+use Rattle.net.specs.Refusals.{Says, accepted, name-unanswered}
+use Rattle.net.specs.Common.{notOrderly}
 use Rattle.net.specs.declared.Net.{Net}
 use Rattle.net.proofs.OrderlyLaws.{facts-orderly}
-use Rattle.net.proofs.SentenceLaws.{told-accepted}
+use Rattle.net.proofs.SentenceLaws.{given-exactly, told-accepted}
 use Rattle.walks.specs.Arcs.{arcs}
 use Rattle.walks.specs.Walk.{Passes}
-use Rattle.walks.specs.Check.{checkRefusals, checkSays}
-use Rattle.walks.specs.Statements.{ArcTestRight, CheckListed, NoneHoldsPasses, PassingAccepted, ArcsOnEitherSide, WalksGrow}
+use Rattle.walks.specs.Check.{onNoWalk, nameUnanswered, checkRefusals, checkSays}
+use Rattle.walks.specs.Statements.{ArcTestRight, CheckListed, UnansweredExactly, NoneHoldsPasses, PassingAccepted, ArcsOnEitherSide, WalksGrow}
 use Rattle.walks.proofs.ArcLaws.{arc-facts}
-use Rattle.walks.proofs.CheckLaws.{says-clear, passes-clear, check-listed, check-told, said-passes}
+use Rattle.walks.proofs.CheckLaws.{says-clear, passes-clear, check-listed, check-told, none-before-partners, said-passes}
 use Rattle.walks.proofs.GrowLaws.{arcs-grow, walk-grows}
 
 pub arc-test-right : ArcTestRight
@@ -18,6 +20,15 @@ arc-test-right = arc-facts
 
 pub check-as-listed : CheckListed
 check-as-listed = check-listed
+
+pub unanswered-exactly : UnansweredExactly
+unanswered-exactly net a =
+    let l = check-listed net .refused-exactly name-unanswered a in
+    let g = given-exactly (notOrderly net ∷ onNoWalk net ∷ []) (nameUnanswered net) [] refl a in
+    let n = none-before-partners net in (
+      (λ e. let w = g .0 (l .0 e) in let o = n .0 (w .0) in (o .0, o .1, w .1)),
+      (λ w. l .1 (g .1 (n .1 (w .0, w .1), w .2))),
+    )
 
 -- what is said of a net that passes
 pub passes-says : (net : Net) → Passes net → checkSays net ≡ accepted (arcs net)

@@ -5,14 +5,15 @@ use mathlib.Core.Path.{_≡_}
 use mathlib.Core.Logic.{_↔_}
 use mathlib.Core.Bool.{true}
 use Rattle.obligations.specs.Limits.{activities}
-use Rattle.net.specs.Sentences.{NoneHolds, AsListed}
+use Rattle.net.specs.Refusals.{name-unanswered}
+use Rattle.net.specs.Sentences.{Lowest, NoneHolds, AsListed}
 use Rattle.net.specs.Orderly.{Orderly}
 use Rattle.net.specs.Contained.{Contained}
 use Rattle.net.specs.declared.Net.{Net}
 use Rattle.net.specs.declared.Side.the-variants.{Input, Output}
 use Rattle.walks.specs.Arcs.{Names, Arc, arc, arcs}
-use Rattle.walks.specs.Walk.{Walk, Passes}
-use Rattle.walks.specs.Check.{checkMeans, checkRefusals, checkSays}
+use Rattle.walks.specs.Walk.{Walk, InNet, OnWalk, Passes}
+use Rattle.walks.specs.Check.{checkMeans, Unanswered, checkRefusals, checkSays}
 use Rattle.walks.specs.declared.CheckAnswer.the-variants.{Passed, Refused}
 
 -- the test of an arc is the paper's
@@ -23,6 +24,13 @@ ArcTestRight = (net : Net) (p q : ℕ) → (arc net p q ≡ true) ↔ Arc net p 
 -- is on no walk, else 19 with the lowest that names one which never names it back
 abbrev pub CheckListed : Type 0
 CheckListed = (net : Net) → AsListed (λ n p. checkMeans (Refused n p)) (checkRefusals net) (checkSays net)
+
+-- 19 is said exactly of a net that is orderly and has all its activities on walks, with the lowest that names one which never
+-- names it back
+abbrev pub UnansweredExactly : Type 0
+UnansweredExactly =
+    (net : Net) (a : ℕ)
+    → (checkSays net ≡ checkMeans (Refused name-unanswered a)) ↔ (Orderly net × ((b : ℕ) → InNet net b → OnWalk net b) × Lowest (Unanswered net) a)
 
 -- no refusal holds exactly if the net passes, and then the number of arcs is said
 abbrev pub NoneHoldsPasses : Type 0

@@ -106,7 +106,10 @@ fn survey_rows<'a>(inputs: &'a [u32], outputs: &'a [u32], start: u32, end: u32, 
     let to = reach::reach(&back, end);
     Survey {
         lost: sets::union(sets::minus(all, from), sets::minus(all, to)),
-        unanswered: sets::union(arcs::unlinked(inputs, &back), arcs::unlinked(outputs, &next)),
+        unanswered: sets::union(
+            arcs::unlinked(inputs, &back),
+            arcs::unlinked(outputs, &next),
+        ),
         arcs: arcs::sizes(&next),
     }
 }
