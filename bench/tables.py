@@ -32,16 +32,38 @@ def dense_net(rng, end, count, together):
     """A net with this many sets on each side, all activities between start and end.
 
     It passes its check: each activity has an arc from the start and one to the end. For that the
-    start's outputs and the end's inputs have all activities, so many together in a set.
+    start's outputs and the end's inputs have all activities, so many together in a set. Names that
+    aren't answered are taken out, and sets of those that are fill the sides up again.
     """
     middle = list(range(START + 1, end))
     each = [tuple(middle[at : at + together]) for at in range(0, len(middle), together)]
-    net = {("out", START): side(rng, each, middle, LARGE_SIZES, count)}
+    # The first sets of each side, the pool of the others, and their sizes.
+    sides = {("out", START): (each, middle, LARGE_SIZES)}
     for activity in middle:
-        net["in", activity] = side(rng, [(START,)], [START] + middle, INPUT_SIZES, count)
-        net["out", activity] = side(rng, [(end,)], middle + [end], OUTPUT_SIZES, count)
-    net["in", end] = side(rng, each, middle, LARGE_SIZES, count)
-    return net
+        sides["in", activity] = ([(START,)], [START] + middle, INPUT_SIZES)
+        sides["out", activity] = ([(end,)], middle + [end], OUTPUT_SIZES)
+    sides["in", end] = (each, middle, LARGE_SIZES)
+    net = {name: side(rng, *drawn, count) for name, drawn in sides.items()}
+    partners = answered(net)
+    return {
+        name: side(rng, only(partners[name], net[name]), sorted(partners[name]), sizes, count)
+        for name, (_first, _pool, sizes) in sides.items()
+    }
+
+
+def answered(net):
+    """The names of each side that are answered."""
+    names = {name: set().union(*sets) for name, sets in net.items()}
+    other = {"in": "out", "out": "in"}
+    return {
+        (word, activity): {k for k in named if activity in names.get((other[word], k), ())}
+        for (word, activity), named in names.items()
+    }
+
+
+def only(partners, sets):
+    """The sets with these members only, without the empty set."""
+    return {tuple(k for k in members if k in partners) for members in sets} - {()}
 
 
 def net_lines(end, net):

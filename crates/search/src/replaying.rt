@@ -12,7 +12,7 @@ use obligations::PAIRS;
 use obligations::POSITIONS;
 use obligations::trace;
 use walks::CheckAnswer;
-use walks::check_orderly;
+use walks::check_lent;
 ghost use mathlib.Core.Path.{_≡_};
 ghost use lib.ListN.{length};
 ghost use Rattle.net.specs.Sides.{netOf};
@@ -44,7 +44,16 @@ pub fn replay(net: Net, trace: &[u32], budget: u64, out: &mut [u32]) -> ReplayAn
             place: place,
         };
     }
-    let checked = check_orderly(net);
+    let start = net.start;
+    let end = net.end;
+    let checked = check_lent(
+        start,
+        end,
+        &net.inputs,
+        &net.input_len,
+        &net.outputs,
+        &net.output_len,
+    );
     if let CheckAnswer::Refused { number, place } = checked {
         return ReplayAnswer::Refused {
             number: number,

@@ -11,7 +11,7 @@ use net::is_orderly;
 use net::refusal;
 use obligations::trace::is_shaped;
 use walks::CheckAnswer;
-use walks::check_orderly;
+use walks::check_lent;
 ghost use mathlib.Core.Path.{_≡_};
 ghost use mathlib.Core.Bool.{true};
 ghost use Rattle.obligations.specs.Sequence.{bindings};
@@ -45,14 +45,23 @@ fn judge_positions(net: Net, words: &[u32], n: usize) -> JudgeAnswer
     requires { ⌜ WithinLimits (now words) n ⌝ }
     ensures { λ r. ⌜ judgeMeans r ≡ judgePositions net (bindings (now (words .entry))) ⌝ }
 {
-    let checked = check_orderly(net);
+    let start = net.start;
+    let end = net.end;
+    let checked = check_lent(
+        start,
+        end,
+        &net.inputs,
+        &net.input_len,
+        &net.outputs,
+        &net.output_len,
+    );
     if let CheckAnswer::Refused { number, place } = checked {
         return JudgeAnswer::Refused {
             number: number,
             place: place,
         };
     }
-    if !is_shaped(words, 3, n, net.start, net.end) {
+    if !is_shaped(words, 3, n, start, end) {
         return JudgeAnswer::Refused {
             number: refusal::WRONG_ENDS,
             place: 0,

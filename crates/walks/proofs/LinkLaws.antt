@@ -21,8 +21,8 @@ use Rattle.net.specs.declared.Side.the-variants.{Input, Output}
 use Rattle.walks.specs.Below.{anyBelow, those}
 use Rattle.walks.specs.Arcs.{named, names, arc, arcs}
 use Rattle.walks.specs.Rows.{has, rows, reach}
-use Rattle.walks.specs.Check.{onSides, inNet, successors, predecessors, outside, lost, unansweredOn, unanswered}
-use Rattle.walks.specs.Links.{unionOf, namedRows, linked, links, unlinked, filled, sizes, RowSurvey, NetSurvey}
+use Rattle.walks.specs.Check.{onSides, inNet, successors, predecessors, outside, lost, unansweredOn, unanswered, passSays}
+use Rattle.walks.specs.Links.{unionOf, namedRows, linked, links, unlinked, filled, sizes, RowSurvey, NetSurvey, surveySays}
 use Rattle.walks.specs.declared.Survey.{Survey}
 use Rattle.walks.proofs.BelowLaws.{any-true, true-any, any-ext, member-those-at, those-are, those-lt, sum-ext, size-those}
 use Rattle.walks.proofs.RowLaws.{rows-long, rows-at, rows-all, rows-ext, has-row, member-union-of, sizes-rows}
@@ -203,3 +203,7 @@ module _ (net : Net) where
   pub rows-found : {inputs outputs : List ℕ} {all : ℕ} {r : Survey} → inputs ≡ rowsOn net Input → outputs ≡ rowsOn net Output → all ≡ setOf net
       → all < 2 ^ 32 → net .start < 32 → net .end < 32 → RowSurvey inputs outputs (net .start) (net .end) all r → NetSurvey net r
   rows-found {inputs} {outputs} {all} {r} i o e h hs he w = found r (rw e at h) hs he (rw (i, o, e) at w)
+
+  -- and what is told of it is what the check says
+  pub survey-says : (r : Survey) → NetSurvey net r → surveySays (r .lost) (r .unanswered) (r .arcs) ≡ passSays net
+  survey-says r w = rw (w .lost-are, w .unanswered-are, w .arcs-are)

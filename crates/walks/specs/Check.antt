@@ -95,5 +95,9 @@ noneIn m n rest = unlessAt (eqb m 0) n (lowestMember m) rest
 abbrev pub passing : Net → Says → Says
 passing net rest = noneIn (lost net) on-no-walk (noneIn (unanswered net) name-unanswered rest)
 
+-- of an orderly net, and of any
+abbrev pub passSays : Net → Says
+passSays net = passing net (accepted (arcs net))
+
 unfoldable pub checkSays : Net → Says
-checkSays net = unless (orderly net) disorderly (passing net (accepted (arcs net)))
+checkSays net = unless (orderly net) disorderly (passSays net)

@@ -12,7 +12,8 @@ use Rattle.obligations.specs.Limits.{activities}
 use Rattle.walks.specs.Below.{anyBelow, those}
 use Rattle.walks.specs.Arcs.{arcs}
 use Rattle.walks.specs.Rows.{has, rows, unionFrom, reach}
-use Rattle.walks.specs.Check.{lost, unanswered}
+use Rattle.net.specs.Refusals.{Says, accepted, on-no-walk, name-unanswered}
+use Rattle.walks.specs.Check.{lost, unanswered, noneIn}
 use Rattle.walks.specs.declared.Survey.{Survey}
 
 -- the members of each of the sets
@@ -57,3 +58,7 @@ pub record NetSurvey (net : Net) (r : Survey) : Type 0 where
   pub lost-are : r .lost ≡ lost net
   pub unanswered-are : r .unanswered ≡ unanswered net
   pub arcs-are : r .arcs ≡ arcs net
+
+-- what the check says of an orderly net with these activities on no walk, these with a name that isn't answered, and so many arcs
+abbrev pub surveySays : ℕ → ℕ → ℕ → Says
+surveySays lost unanswered arcs = noneIn lost on-no-walk (noneIn unanswered name-unanswered (accepted arcs))

@@ -4,7 +4,9 @@
 mod arcs;
 mod reach;
 
+use net::LISTS;
 use net::Net;
+use net::PLACES;
 use net::is_orderly;
 use net::refusal;
 use obligations::sets;
@@ -14,11 +16,10 @@ ghost use mathlib.Core.Bool.{true};
 ghost use lib.ListN.{length};
 ghost use Rattle.obligations.specs.Limits.{activities};
 ghost use Rattle.obligations.specs.Sets.{union};
-ghost use Rattle.net.specs.Refusals.{accepted};
+ghost use Rattle.net.specs.Sides.{netOf};
 ghost use Rattle.net.specs.Orderly.{orderly};
-ghost use Rattle.walks.specs.Arcs.{arcs};
-ghost use Rattle.walks.specs.Links.{unionOf, filled, RowSurvey, NetSurvey};
-ghost use Rattle.walks.specs.Check.{checkMeans, passing, checkSays};
+ghost use Rattle.walks.specs.Links.{unionOf, filled, RowSurvey, surveySays};
+ghost use Rattle.walks.specs.Check.{checkMeans, passSays, checkSays};
 
 // Passed: the number of arcs. Refused: the refusal's number and the place that is returned with it.
 pub enum CheckAnswer {
@@ -44,46 +45,58 @@ pub fn check(net: Net) -> CheckAnswer
             place: 0,
         };
     }
-    check_orderly(net)
+    let start = net.start;
+    let end = net.end;
+    check_lent(
+        start,
+        end,
+        &net.inputs,
+        &net.input_len,
+        &net.outputs,
+        &net.output_len,
+    )
 }
 
-// The check of an orderly net. Callers that have tested the record call this.
-pub fn check_orderly(net: Net) -> CheckAnswer
-    requires { ⌜ orderly net ≡ true ⌝ }
-    ensures { λ r. ⌜ checkMeans r ≡ passing net (accepted (arcs net)) ⌝ }
+// The check of an orderly net, with its arrays lent, so that the record isn't copied. Callers that have tested it call this.
+pub fn check_lent<'a>(
+    start: u32,
+    end: u32,
+    inputs: &'a [u32; PLACES],
+    input_len: &'a [u32; LISTS],
+    outputs: &'a [u32; PLACES],
+    output_len: &'a [u32; LISTS],
+) -> CheckAnswer
+    requires { ⌜ orderly (netOf start end (now inputs) (now «input_len») (now outputs) (now «output_len»)) ≡ true ⌝ }
+    ensures { λ r. ⌜ checkMeans r ≡ passSays (netOf start end (now (inputs .entry)) (now («input_len» .entry)) (now (outputs .entry)) (now («output_len» .entry))) ⌝ }
 {
-    let survey = survey_net(net);
-    let lost = survey.lost;
+    let input_names = arcs::named_rows(inputs, input_len);
+    let output_names = arcs::named_rows(outputs, output_len);
+    let on_inputs = on_sides(&input_names, input_len);
+    let on_outputs = on_sides(&output_names, output_len);
+    let ends = sets::with(sets::single(start), end);
+    let all = sets::union(ends, sets::union(on_inputs, on_outputs));
+    let survey = survey_rows(&input_names, &output_names, start, end, all);
+    told(survey.lost, survey.unanswered, survey.arcs)
+}
+
+// What the check says of an orderly net with these activities on no walk, these with a name that isn't answered, and so many
+// arcs.
+fn told(lost: u32, unanswered: u32, arcs: u32) -> CheckAnswer
+    ensures { λ r. ⌜ checkMeans r ≡ surveySays lost unanswered arcs ⌝ }
+{
     if lost != 0 {
         return CheckAnswer::Refused {
             number: refusal::ON_NO_WALK,
             place: u32::trailing_zeros(lost),
         };
     }
-    let unanswered = survey.unanswered;
     if unanswered != 0 {
         return CheckAnswer::Refused {
             number: refusal::NAME_UNANSWERED,
             place: u32::trailing_zeros(unanswered),
         };
     }
-    CheckAnswer::Passed { arcs: survey.arcs }
-}
-
-// What the check finds of an orderly net.
-fn survey_net(net: Net) -> Survey
-    requires { ⌜ orderly net ≡ true ⌝ }
-    ensures { λ r. ⌜ NetSurvey net r ⌝ }
-{
-    let start = net.start;
-    let end = net.end;
-    let inputs = arcs::named_rows(&net.inputs, &net.input_len);
-    let outputs = arcs::named_rows(&net.outputs, &net.output_len);
-    let on_inputs = on_sides(&inputs, &net.input_len);
-    let on_outputs = on_sides(&outputs, &net.output_len);
-    let ends = sets::with(sets::single(start), end);
-    let all = sets::union(ends, sets::union(on_inputs, on_outputs));
-    survey_rows(&inputs, &outputs, start, end, all)
+    CheckAnswer::Passed { arcs: arcs }
 }
 
 // The activities with a set on this kind of side, and those named in one.

@@ -1,4 +1,4 @@
--- `check` meets its contract: refused by 2, or the check of an orderly net. Assumes nothing.
+-- `check` meets its contract: refused by 2, or the check of an orderly net whose arrays are lent. Assumes nothing.
 use borrow.Author.Needs.{needs}
 use borrow.Author.Tests.{not-true, not-false}
 use mathlib.Core.Bool.{true}
@@ -15,15 +15,15 @@ returns : tie.Need-returns
 unfolding checkSays
 returns c = rw (sym (c .before .is-orderly .ensures) ∙ not-true _ (c .if1 .taken))
 
-orderly-here : (c : tie.Else1) → orderly (c .before .before .args .net) ≡ true
+orderly-here : (c : tie.Else1) → orderly (c .before .before .args .t1) ≡ true
 orderly-here c = sym (c .before .is-orderly .ensures) ∙ not-false _ (c .if1 .left)
 
-check-orderly-requires : tie.Need-check-orderly-requires
-check-orderly-requires c κs = orderly-here c
+check-lent-requires : tie.Need-check-lent-requires
+check-lent-requires c κs = orderly-here (c .before .before .before .before .before)
 
 returns-2 : tie.Need-returns-2
 unfolding checkSays
-returns-2 c = rw (orderly-here (c .before)) (c .check-orderly .ensures)
+returns-2 c = rw (orderly-here (c .before .before .before .before .before .before)) (c .check-lent .ensures)
 
 pub check-spec : {M : Type 1} → statement M
-check-spec = tie.close (tie.spec is-orderly-requires returns check-orderly-requires returns-2)
+check-spec = tie.close (tie.spec is-orderly-requires returns check-lent-requires returns-2)

@@ -7,6 +7,7 @@ use borrow.Author.Tests.{not-true, not-false}
 use Rattle.obligations.specs.Trace.{shaped}
 use Rattle.obligations.specs.Sequence.{bindings, at}
 use Rattle.net.specs.Refusals.{Says}
+use Rattle.walks.specs.Arcs.{arcs}
 use Rattle.walks.specs.Check.{checkMeans}
 use Rattle.walks.proofs.CheckLaws.{Clear, passing-passes}
 use Rattle.sequences.proofs.WordLaws.{shaped-same}
@@ -16,33 +17,36 @@ use Rattle.sequences.proofs.judging.judge_positions.Tie as tie
 
 -- ---- what is known after each test
 
-abbrev start-at : tie.After-enum-told → tie.Start
-start-at c = c .before .before .before .before
+abbrev start-of : tie.After-check-lent → tie.Start
+start-of c = c .before .before .before .before .before .before .before
 
-clear-here : (c : tie.After-enum-told) → Clear (start-at c .args .net)
-clear-here c = passing-passes (start-at c .args .net) _ .0 (ap (λ (s : Says). s .ok) (sym (c .before .before .check-orderly .ensures) ∙ ap checkMeans (c .enum-told .given .1))) .0
+abbrev start-at : tie.After-enum-told → tie.Start
+start-at c = start-of (c .before .before)
+
+clear-here : (c : tie.After-enum-told) → Clear (start-at c .args .t1)
+clear-here c = passing-passes (start-at c .args .t1) _ .0 (ap (λ (s : Says). s .ok) (sym (c .before .before .check-lent .ensures) ∙ ap checkMeans (c .enum-told .given .1))) .0
 
 shaped-here : (c : tie.Else1)
     → let g = start-at (c .before .before) .args in
     let s = bindings (g .words .now) in
-    shaped (g .net .start) (g .net .end) (length s) (λ i. at s i .activity) ≡ true
+    shaped (g .t1 .start) (g .t1 .end) (length s) (λ i. at s i .activity) ≡ true
 shaped-here c =
     let g = start-at (c .before .before) in
-    shaped-same (g .args .net .start) (g .args .net .end) (g .args .words .now) (g .args .n) (g .pre .1) ∙ (rw (← c .before .is-shaped .ensures) (not-false _ (c .if1 .left)))
+    shaped-same (g .args .t1 .start) (g .args .t1 .end) (g .args .words .now) (g .args .n) (g .pre .1) ∙ (rw (← c .before .is-shaped .ensures) (not-false _ (c .if1 .left)))
 
 -- ---- the needs
 
-check-orderly-requires : tie.Need-check-orderly-requires
-check-orderly-requires c κs = search needs
+check-lent-requires : tie.Need-check-lent-requires
+check-lent-requires c κs = search needs
 
 enum-known-checked : tie.Need-enum-known-checked
 enum-known-checked c = search needs
 
 returns : tie.Need-returns
 returns c =
-    let g = c .before .before .before .before .before .args in
+    let g = start-of (c .before .before .before) .args in
     let k = c .before .checked .given in
-    judged-not-passing (g .net) (bindings (g .words .now)) _ (k .0 .0) (k .0 .1 .0) (sym (c .before .before .before .check-orderly .ensures) ∙ ap checkMeans (k .1))
+    judged-not-passing (g .t1) (bindings (g .words .now)) (arcs (g .t1)) (k .0 .0) (k .0 .1 .0) (sym (c .before .before .before .check-lent .ensures) ∙ ap checkMeans (k .1))
 
 enum-told : tie.Need-enum-told
 enum-told c = search needs
@@ -54,8 +58,8 @@ returns-2 : tie.Need-returns-2
 returns-2 c =
     let at-told = c .before .before in
     let g = start-at at-told in
-    judged-ends (g .args .net) (bindings (g .args .words .now)) (clear-here at-told)
-    (shaped-same (g .args .net .start) (g .args .net .end) (g .args .words .now) (g .args .n) (g .pre .1) ∙ (rw (← c .before .is-shaped .ensures) (not-true _ (c .if1 .taken))))
+    judged-ends (g .args .t1) (bindings (g .args .words .now)) (clear-here at-told)
+    (shaped-same (g .args .t1 .start) (g .args .t1 .end) (g .args .words .now) (g .args .n) (g .pre .1) ∙ (rw (← c .before .is-shaped .ensures) (not-true _ (c .if1 .taken))))
 
 first-missing-requires : tie.Need-first-missing-requires
 first-missing-requires c κs = search needs
@@ -65,7 +69,7 @@ returns-3 c =
     let after-shape = c .before .before in
     let at-told = after-shape .before .before in
     let g = start-at at-told in
-    judged-missing (g .args .net) (bindings (g .args .words .now)) (clear-here at-told) (shaped-here after-shape) (c .before .first-missing .result) (c .before .first-missing .ensures) (c .if2 .taken)
+    judged-missing (g .args .t1) (bindings (g .args .words .now)) (clear-here at-told) (shaped-here after-shape) (c .before .first-missing .result) (c .before .first-missing .ensures) (c .if2 .taken)
 
 run-judged-requires : tie.Need-run-judged-requires
 run-judged-requires c κs = search needs
@@ -77,13 +81,13 @@ returns-4 c =
     let at-told = after-shape .before .before in
     let g = start-at at-told in
     c .run-judged .ensures
-    ∙ sym (judged-run (g .args .net) (bindings (g .args .words .now)) (clear-here at-told) (shaped-here after-shape) (rw (after-missing .first-missing .ensures) at (c .before .if2 .left)))
+    ∙ sym (judged-run (g .args .t1) (bindings (g .args .words .now)) (clear-here at-told) (shaped-here after-shape) (rw (after-missing .first-missing .ensures) at (c .before .if2 .left)))
 
 pub judge-positions-spec : {M : Type 1} → statement M
 judge-positions-spec =
     tie.close
     (tie.spec
-    check-orderly-requires
+    check-lent-requires
     enum-known-checked
     returns
     enum-told
