@@ -14,7 +14,9 @@ import tables
 END = 31
 MIDDLE = range(tables.START + 1, END)
 SETS_OF_A_SIDE = 16
-SHORTEST, LONGEST = 20, 40  # Positions between start and end.
+# Positions between start and end: few, as all names are answered and hardly any walk ends early, so
+# that some searches end within the budget.
+SHORTEST, LONGEST = 1, 12
 
 
 def make_net(rng):
