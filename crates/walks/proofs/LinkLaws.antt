@@ -22,7 +22,7 @@ use Rattle.walks.specs.Below.{anyBelow, those}
 use Rattle.walks.specs.Arcs.{named, names, arc, arcs}
 use Rattle.walks.specs.Rows.{has, rows, reach}
 use Rattle.walks.specs.Check.{onSides, inNet, successors, predecessors, outside, lost, unansweredOn, unanswered, passSays}
-use Rattle.walks.specs.Links.{unionOf, namedRows, linked, links, unlinked, filled, sizes, RowSurvey, NetSurvey, surveySays}
+use Rattle.walks.specs.Links.{unionOf, namedRows, linked, links, unlinked, filled, sizes, RowSurvey, surveySays}
 use Rattle.walks.specs.declared.Survey.{Survey}
 use Rattle.walks.proofs.BelowLaws.{any-true, true-any, any-ext, member-those-at, those-are, those-lt, sum-ext, size-those}
 use Rattle.walks.proofs.RowLaws.{rows-long, rows-at, rows-all, rows-ext, has-row, member-union-of, sizes-rows}
@@ -188,22 +188,19 @@ module _ (net : Net) where
   unfolding Small predecessors
   predecessors-small = rows-all (λ m. m < 2 ^ 32) (λ q. those (λ p. arc net p q)) (lit< tt) (λ q h. those-lt (λ p. arc net p q))
 
-  found : (r : Survey) → setOf net < 2 ^ 32 → net .start < 32 → net .end < 32 → RowSurvey (rowsOn net Input) (rowsOn net Output) (net .start) (net .end) (setOf net) r → NetSurvey net r
-  unfolding lost
-  found r h hs he w = record {
-    lost-are =
+  -- ---- what is found from the rows on the net's sides and the set of its activities is what the check says
+
+  module _ (r : Survey) (h : setOf net < 2 ^ 32) (hs : net .start < 32) (he : net .end < 32) (w : RowSurvey (rowsOn net Input) (rowsOn net Output) (net .start) (net .end) (setOf net) r) where
+    lost-found : r .lost ≡ lost net
+    unfolding lost
+    lost-found =
         w .lost-are
         ∙ ap₂ (λ (n p : List ℕ). union (minus (setOf net) (reach n (net .start))) (minus (setOf net) (reach p (net .end)))) links-successors links-predecessors
-        ∙ outside-are (setOf net) (reach (successors net) (net .start)) (reach (predecessors net) (net .end)) h (reach-lt (successors net) successors-small (net .start)) (reach-lt (predecessors net) predecessors-small (net .end)) (λ k l. member-set-of k l hs he);
-    unanswered-are = w .unanswered-are ∙ unlinked-unanswered;
-    arcs-are = w .arcs-are ∙ ap sizes links-successors ∙ sizes-successors;
-  }
+        ∙ outside-are (setOf net) (reach (successors net) (net .start)) (reach (predecessors net) (net .end)) h (reach-lt (successors net) successors-small (net .start)) (reach-lt (predecessors net) predecessors-small (net .end)) (λ k l. member-set-of k l hs he)
 
-  -- what is found from the rows on the net's sides and the set of its activities is what the check finds
-  pub rows-found : {inputs outputs : List ℕ} {all : ℕ} {r : Survey} → inputs ≡ rowsOn net Input → outputs ≡ rowsOn net Output → all ≡ setOf net
-      → all < 2 ^ 32 → net .start < 32 → net .end < 32 → RowSurvey inputs outputs (net .start) (net .end) all r → NetSurvey net r
-  rows-found {inputs} {outputs} {all} {r} i o e h hs he w = found r (rw e at h) hs he (rw (i, o, e) at w)
+    found-says : surveySays (r .lost) (r .unanswered) (r .arcs) ≡ passSays net
+    found-says = rw (lost-found, w .unanswered-are ∙ unlinked-unanswered, w .arcs-are ∙ ap sizes links-successors ∙ sizes-successors)
 
-  -- and what is told of it is what the check says
-  pub survey-says : (r : Survey) → NetSurvey net r → surveySays (r .lost) (r .unanswered) (r .arcs) ≡ passSays net
-  survey-says r w = rw (w .lost-are, w .unanswered-are, w .arcs-are)
+  pub rows-say : {inputs outputs : List ℕ} {all : ℕ} {r : Survey} → inputs ≡ rowsOn net Input → outputs ≡ rowsOn net Output → all ≡ setOf net
+      → all < 2 ^ 32 → net .start < 32 → net .end < 32 → RowSurvey inputs outputs (net .start) (net .end) all r → surveySays (r .lost) (r .unanswered) (r .arcs) ≡ passSays net
+  rows-say {inputs} {outputs} {all} {r} i o e h hs he w = found-says r (rw e at h) hs he (rw (i, o, e) at w)

@@ -75,7 +75,7 @@ outside net from to = those (λ a. inNet net a && not (member from a && member t
 unfoldable pub lost : Net → ℕ
 lost net = outside net (reach (successors net) (net .start)) (reach (predecessors net) (net .end))
 
--- a names an activity in a set on its side of this kind that never names it back in one on the opposite side
+-- a names an activity on its side of this kind, and that one's opposite side never names a back
 unfoldable pub unansweredOn : Net → Side → ℕ → Bool
 unansweredOn net side a = anyBelow activities (λ k. names net side a k && not (names net (opposite side) k a))
 
@@ -95,7 +95,7 @@ noneIn m n rest = unlessAt (eqb m 0) n (lowestMember m) rest
 abbrev pub passing : Net → Says → Says
 passing net rest = noneIn (lost net) on-no-walk (noneIn (unanswered net) name-unanswered rest)
 
--- of an orderly net, and of any
+-- what the check says of an orderly net, and of any
 abbrev pub passSays : Net → Says
 passSays net = passing net (accepted (arcs net))
 

@@ -29,10 +29,10 @@ pub enum CheckAnswer {
 
 // The activities of a net that are on no walk from start to end, those that name one which never names them back, and the
 // number of its arcs.
-pub struct Survey {
-    pub lost: u32,
-    pub unanswered: u32,
-    pub arcs: u32,
+struct Survey {
+    lost: u32,
+    unanswered: u32,
+    arcs: u32,
 }
 
 // The net check.
@@ -107,7 +107,7 @@ fn on_sides<'a>(named: &'a [u32], lengths: &'a [u32]) -> u32
     sets::union(arcs::filled(lengths), arcs::union_of(named))
 }
 
-// The same, where the rows have those named on each activity's sides, and the set has the net's activities.
+// What the check finds, where the rows have those named on each activity's sides, and the set has the net's activities.
 fn survey_rows<'a>(inputs: &'a [u32], outputs: &'a [u32], start: u32, end: u32, all: u32) -> Survey
     requires { ⌜ (length (now inputs) ≡ activities) × (length (now outputs) ≡ activities) ⌝ }
     requires { ⌜ (start < activities) × (end < activities) ⌝ }

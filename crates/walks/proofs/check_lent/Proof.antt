@@ -12,7 +12,7 @@ use Rattle.net.specs.declared.Net.{Net}
 use Rattle.net.proofs.OrderlyLaws.{ends-facts, orderly-ends, orderly-arrays}
 use Rattle.net.specs.declared.Side.the-variants.{Input, Output}
 use Rattle.walks.specs.Links.{unionOf, filled}
-use Rattle.walks.proofs.LinkLaws.{named-rows-long, rows-found, survey-says}
+use Rattle.walks.proofs.LinkLaws.{named-rows-long, rows-say}
 use Rattle.walks.proofs.check_lent.Statement.{statement}
 use Rattle.walks.proofs.check_lent.Tie as tie
 
@@ -99,8 +99,7 @@ returns c =
     ∙ ap₂ union
     (on-inputs .on-sides .ensures ∙ ap (on-side (net .«input_len»)) i)
     (on-outputs .on-sides2 .ensures ∙ ap (on-side (net .«output_len»)) o)) in
-    let found = rows-found net i o all-are (all .union2 .ok) (ends-here .0) (ends-here .1) (r .survey-rows .ensures) in
-    c .told .ensures ∙ survey-says net (r .survey-rows .result) found
+    c .told .ensures ∙ rows-say net i o all-are (all .union2 .ok) (ends-here .0) (ends-here .1) (r .survey-rows .ensures)
 
 pub check-lent-spec : {M : Type 1} → statement M
 check-lent-spec =
