@@ -1,20 +1,21 @@
 -- The statements of specs/Statements.antt, each from the laws of its definition. Assumes nothing.
-use Prim.Native.Nat.{ℕ}
+use Prim.Native.Nat.{ℕ, _*_, _<_}
 use native.Mathlib.Omega.{arith}
+use borrow.Author.Tests.{ne-eqb}
 use mathlib.Core.Path.{_≡_, refl, sym, ap}
 use mathlib.Core.Bool.{Bool, true, false, not, cond}
 use mathlib.Core.Logic.{_↔_, _⊎_, ⊎-elim}
 use Rattle.obligations.specs.Tests.{indicator}
 use Rattle.obligations.proofs.BoolLaws.{true-or-false, false-not-true}
-use Rattle.net.specs.Refusals.{Says, accepted, refused}
-use Rattle.net.specs.Sentences.{NoneHolds}
+use Rattle.net.specs.Refusals.{Says, accepted, refused, name-unanswered}
+use Rattle.net.specs.Sentences.{orderOf, NoneHolds}
 use Rattle.net.specs.Lists.{listed}
 use Rattle.net.specs.Sides.{setsOn}
 use Rattle.net.specs.Orderly.{Orderly, endsOk, orderly}
 use Rattle.net.specs.Fresh.{freshNet, freshRefusals, freshSays, freshGives}
 use Rattle.net.specs.Put.{putRefusals, putSays, putGives}
 use Rattle.net.specs.Contained.{Contained, contained, containedSays}
-use Rattle.net.specs.Statements.{OrderlyTestRight, ContainedTestRight, FreshSaid, FreshHolds, FreshRefused, Put, PutSaid, PutHolds, PutRefusedSame, ContainedSaid, FreshListed, PutListed, ContainedListed}
+use Rattle.net.specs.Statements.{PapersOrder, OrderlyTestRight, ContainedTestRight, FreshSaid, FreshHolds, FreshRefused, Put, PutSaid, PutHolds, PutRefusedSame, ContainedSaid, FreshListed, PutListed, ContainedListed}
 use Rattle.net.specs.declared.Net.{Net}
 use Rattle.net.specs.declared.Side.{Side}
 use Rattle.net.proofs.SentenceLaws.{Told, told-accepted, told-value}
@@ -23,6 +24,17 @@ use Rattle.net.proofs.FreshLaws.{fresh-start, fresh-end, fresh-on-side,
 use Rattle.net.proofs.PutLaws.{put-refused, put-accepted, put-start, put-end, put-orderly, put-on-side, put-size}
 use Rattle.net.proofs.ContainedLaws.{contained-facts, facts-contained}
 use Rattle.net.proofs.RefusalLaws.{fresh-told, fresh-listed, put-told, put-listed, contained-listed}
+
+-- the place of a number in the order, but for 19
+order-of : (n : ℕ) → (n ≡ name-unanswered → ⊥) → orderOf n ≡ 2 * n
+order-of n d = rw (ne-eqb n name-unanswered d)
+
+pub papers-order : PapersOrder
+papers-order = record {
+  by-number = λ m n dm dn. ((λ l. omega (arith, l, order-of m dm, order-of n dn)), (λ l. omega (arith, l, order-of m dm, order-of n dn)));
+  after-six = omega arith;
+  before-seven = omega arith;
+}
 
 pub orderly-test-right : OrderlyTestRight
 orderly-test-right net = (orderly-facts net, facts-orderly net)

@@ -1,12 +1,13 @@
 -- What is proved of the definitions (01, "The net and its sets", "Learning and containment"): the tests are the facts that the
 -- paper states, a fresh net holds two empty sets and nothing else, and put adds one set to one side and nothing else. The
 -- proofs are in proofs/Theorems.antt.
-use Prim.Native.Nat.{ℕ, _+_}
+use Prim.Native.Nat.{ℕ, _+_, _<_}
 use mathlib.Core.Path.{_≡_}
 use mathlib.Core.Bool.{true, false}
 use mathlib.Core.Logic.{_↔_, _⊎_}
 use Rattle.net.specs.Sides.{emptyAt, OnSide, netSize}
-use Rattle.net.specs.Sentences.{NoneHolds, AsListed}
+use Rattle.net.specs.Refusals.{on-no-walk, wrong-ends, name-unanswered}
+use Rattle.net.specs.Sentences.{orderOf, NoneHolds, AsListed}
 use Rattle.net.specs.Orderly.{Orderly, orderly}
 use Rattle.net.specs.Fresh.{freshMeans, freshNet, freshRefusals, freshSays, freshGives}
 use Rattle.net.specs.Put.{putMeans, putRefusals, putSays, putGives}
@@ -16,6 +17,12 @@ use Rattle.net.specs.declared.Side.{Side}
 use Rattle.net.specs.declared.FreshAnswer.the-variants as fresh
 use Rattle.net.specs.declared.PutAnswer.the-variants as put
 use Rattle.net.specs.declared.ContainedAnswer.the-variants as answer
+
+-- the papers' order is that of the numbers, but for 19, which comes after 6 and before 7
+pub record PapersOrder : Type 0 where
+  pub by-number : (m n : ℕ) → (m ≡ name-unanswered → ⊥) → (n ≡ name-unanswered → ⊥) → (orderOf m < orderOf n) ↔ (m < n)
+  pub after-six : orderOf on-no-walk < orderOf name-unanswered
+  pub before-seven : orderOf name-unanswered < orderOf wrong-ends
 
 -- the test of a record is the paper's
 abbrev pub OrderlyTestRight : Type 0
