@@ -14,8 +14,8 @@ import tables
 END = 31
 MIDDLE = range(tables.START + 1, END)
 SETS_OF_A_SIDE = 16
-# Positions between start and end: few, as all names are answered and hardly any walk ends early, so
-# that some searches end within the budget.
+# Positions between start and end. As every name is answered hardly any walk ends early, so they are
+# few: else no search would end within the budget.
 SHORTEST, LONGEST = 1, 12
 
 

@@ -161,8 +161,8 @@ def of_net_check():
 
 
 def of_calls_that_pass_over_partners():
-    note("Fresh, put, containment, learn, follow and the file's calls don't check the net: none "
-         "gives 19. 1 names 2, which never names it back.")
+    note("Put, containment, learn, follow and the net file's calls don't check the net: none gives "
+         "19. 1 names 2, which never names it back.")
     ok("copy 0 1")
     put_new(0, OUT, 1, 4)
     say("contained 1 0", "ok 1")

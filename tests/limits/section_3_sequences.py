@@ -381,7 +381,7 @@ def of_replay_on_partners():
 
     note("Replay, 19: the lowest naming activity, here by an input set; with its partner the trace "
          "is searched again. After Y 2 at the start both input sets of 2 fail; after Y 4 its first "
-         "one does, and then the second one of 3.")
+         "one is possible, and then the second one of 3.")
     ok("copy 0 1")
     put_new(0, IN, 2, 2)
     refused(19, 2, "replay 0 100 9 0 2 3")

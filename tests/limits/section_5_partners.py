@@ -6,7 +6,7 @@ back. The place is the lowest activity that names one which never names it back.
 
 from bindings import mask
 from calls import IN, OUT, disorder, put_new
-from limits import ACTIVITIES, ALL, LAST
+from limits import ACTIVITIES, ALL, LAST, SETS
 from record import in_place, out_place
 from script import note, ok, refused, say
 
@@ -16,11 +16,12 @@ def write():
     names_of_oneself()
     names_that_have_no_partner_ever()
     partners_in_other_sets()
-    the_naming_one_and_the_named_one()
     several_without_partner()
     after_walks()
     nets_drawn_box_by_box()
+    start_above_end()
     each_activity_as_the_naming_one()
+    partners_on_full_sides()
 
 
 def names_without_partner():
@@ -115,23 +116,6 @@ def partners_in_other_sets():
     say("check 0", "ok 5")
 
 
-def the_naming_one_and_the_named_one():
-    note("The naming activity is returned and not the named one, which is first the lower of the "
-         "two and then the higher.")
-    ok("copy 0 1")
-    put_new(0, OUT, 2, mask(1))
-    refused(19, 2, "check 0")
-    ok("copy 0 1")
-    put_new(0, IN, 2, mask(1))
-    refused(19, 2, "check 0")
-    ok("copy 0 1")
-    put_new(0, OUT, 1, mask(2))
-    refused(19, 1, "check 0")
-    ok("copy 0 1")
-    put_new(0, IN, 1, mask(2))
-    refused(19, 1, "check 0")
-
-
 def several_without_partner():
     note("Several without partner: the lowest naming one is returned, on whichever side it names "
          "and in whatever order the sets were put.")
@@ -219,12 +203,30 @@ def nets_drawn_box_by_box():
     say("check 0", "ok 6")
 
 
-def put_everywhere(outputs, inputs):
+def start_above_end():
+    note(f"F from the top: the start is {LAST} and the end {LAST - 3}, so that the end is the "
+         "lowest activity and the start the highest. One after the other the start names itself, "
+         "one between names the other, that one the end, and the end names itself.")
+    ok(f"fresh 0 {LAST} {LAST - 3}")
+    say(f"follow 0 {LAST} {LAST - 1} {LAST - 3}", "ok 4")
+    say(f"follow 0 {LAST} {LAST - 2} {LAST - 3}", "ok 4")
+    say("check 0", "ok 4")
+    put_new(0, OUT, LAST, mask(LAST))
+    refused(19, LAST, "check 0")
+    put_new(0, OUT, LAST - 1, mask(LAST - 2))
+    refused(19, LAST - 1, "check 0")
+    put_new(0, IN, LAST - 2, mask(LAST - 3))
+    refused(19, LAST - 2, "check 0")
+    put_new(0, IN, LAST - 3, mask(LAST - 3))
+    refused(19, LAST - 3, "check 0")
+
+
+def put_everywhere(register, outputs, inputs):
     """A set for each output side but the end's, and one for each input side but the start's."""
     for activity in range(LAST):
-        put_new(0, OUT, activity, outputs)
+        put_new(register, OUT, activity, outputs)
     for activity in range(1, ACTIVITIES):
-        put_new(0, IN, activity, inputs)
+        put_new(register, IN, activity, inputs)
 
 
 def each_activity_as_the_naming_one():
@@ -232,7 +234,7 @@ def each_activity_as_the_naming_one():
     note(f"The most arcs there can be: start 0 and end {LAST}, each of 0 to {LAST - 1} names 1 to "
          f"{LAST}, each of 1 to {LAST} names 0 to {LAST - 1}: {LAST} times {LAST} arcs.")
     ok(f"fresh 0 0 {LAST}")
-    put_everywhere(outputs, inputs)
+    put_everywhere(0, outputs, inputs)
     say("check 0", f"ok {LAST * LAST}")
 
     note(f"There the end doesn't name one of 0 to {LAST - 1}, which names it on its output side.")
@@ -255,5 +257,26 @@ def each_activity_as_the_naming_one():
 
     note(f"The same with sets that name all {ACTIVITIES} activities: 0 is the lowest of all that "
          "name the start on their output sides.")
-    put_everywhere(outputs=ALL, inputs=ALL)
-    refused(19, 0, "check 0")
+    ok("copy 2 0")
+    put_everywhere(2, outputs=ALL, inputs=ALL)
+    refused(19, 0, "check 2")
+
+
+def partners_on_full_sides():
+    few = SETS - 2
+    note(f"In the net of the most arcs {LAST - 1} isn't named by the end. With {few} sets more on "
+         f"the end's input side it still isn't; {{{LAST - 1}}}, the highest there, fills the side.")
+    ok("copy 2 0", f"poke 2 {in_place(LAST)} {ALL - mask(LAST) - mask(LAST - 1)}")
+    refused(19, LAST - 1, "check 2")
+    put_new(2, IN, LAST, *(mask(activity) for activity in range(few)))
+    refused(19, LAST - 1, "check 2")
+    put_new(2, IN, LAST, mask(LAST - 1))
+    say("check 2", f"ok {LAST * LAST}")
+
+    note(f"The same of the start's output side and {LAST}.")
+    ok("copy 2 0", f"poke 2 {out_place(0)} {ALL - mask(0) - mask(LAST)}")
+    refused(19, LAST, "check 2")
+    put_new(2, OUT, 0, *(mask(activity) for activity in range(1, few + 1)))
+    refused(19, LAST, "check 2")
+    put_new(2, OUT, 0, mask(LAST))
+    say("check 2", f"ok {LAST * LAST}")

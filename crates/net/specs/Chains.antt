@@ -1,4 +1,4 @@
--- A call's refusals as a chain of tests in the order of their numbers: the first test that fails gives its refusal.
+-- A call's refusals as a chain of tests in the papers' order: the first test that fails gives its refusal.
 use Prim.Native.Nat.{ℕ}
 use mathlib.Core.Bool.{Bool, cond}
 use lib.Dec.{eqb}

@@ -1,13 +1,13 @@
 -- The sides of a net (01, "The net and its sets"): each activity's list of sets of one kind. The sides of one kind are an
 -- array of masks, 16 places for each activity, and an array of list lengths.
-use Prim.Native.Nat.{ℕ, _+_, _*_, _<_, _≤_}
+use Prim.Native.Nat.{ℕ, _+_, _*_, _<_}
 use mathlib.Core.Path.{_≡_}
 use mathlib.Core.Bool.{true}
 use mathlib.Core.List.{List}
-use lib.ListN.{length, take, drop, getD}
-use Rattle.obligations.specs.Limits.{activities, masks}
+use lib.ListN.{take, drop, getD}
+use Rattle.obligations.specs.Limits.{masks}
 use Rattle.obligations.specs.State.{total}
-use Rattle.net.specs.Limits.{sets, places}
+use Rattle.net.specs.Limits.{sets}
 use Rattle.net.specs.Lists.{listed}
 use Rattle.net.specs.declared.Net.{Net}
 use Rattle.net.specs.declared.Side.{Side}

@@ -1,9 +1,9 @@
--- What is proved of the definitions (01, "The net and its sets", "Learning and containment"): the tests are the facts that the
--- paper states, a fresh net holds two empty sets and nothing else, and put adds one set to one side and nothing else. The
--- proofs are in proofs/Theorems.antt.
+-- What is proved of the definitions (01, "The net and its sets", "Learning and containment"): the order of refusals is that of their
+-- numbers, but for 19 (02, (iv)); the tests are the facts that the paper states, a fresh net holds two empty sets and nothing else,
+-- and put adds one set to one side and nothing else. The proofs are in proofs/Theorems.antt.
 use Prim.Native.Nat.{ℕ, _+_, _<_}
 use mathlib.Core.Path.{_≡_}
-use mathlib.Core.Bool.{true, false}
+use mathlib.Core.Bool.{true}
 use mathlib.Core.Logic.{_↔_, _⊎_}
 use Rattle.net.specs.Sides.{emptyAt, OnSide, netSize}
 use Rattle.net.specs.Refusals.{on-no-walk, wrong-ends, name-unanswered}

@@ -17,7 +17,6 @@ use Rattle.net.specs.Sides.{setsOn}
 use Rattle.net.specs.Orderly.{endsOk, blockOk, sidesOk, sized, orderly}
 use Rattle.net.specs.Fresh.{freshNet, freshGives}
 use Rattle.net.specs.Examples.{F, travel}
-use Rattle.net.specs.Traces.{traceWithin}
 use Rattle.net.specs.Put.{misplaced, sideSays, grows, putMasks, putLengths}
 use Rattle.net.specs.Contained.{sidesWithin, contained, containedMeans, containedSays}
 use Rattle.net.specs.declared.Side.the-variants.{Output}

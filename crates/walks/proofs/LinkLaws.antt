@@ -14,6 +14,7 @@ use Rattle.obligations.specs.Tests.{number}
 use Rattle.obligations.specs.Sets.{member, single, union, minus, size}
 use Rattle.obligations.proofs.BoolLaws.{false-not-true, same-test, or-left, or-right, or-cases}
 use Rattle.obligations.proofs.SetLaws.{member-single, member-union, member-minus, member-with, union-lt, minus-lt}
+use Rattle.net.specs.Refusals.{accepted}
 use Rattle.net.specs.Sides.{masksOf, lengthsOf, opposite, sideIn, setsOn}
 use Rattle.net.specs.declared.Net.{Net}
 use Rattle.net.specs.declared.Side.{Side}
@@ -21,8 +22,8 @@ use Rattle.net.specs.declared.Side.the-variants.{Input, Output}
 use Rattle.walks.specs.Below.{anyBelow, those}
 use Rattle.walks.specs.Arcs.{named, names, arc, arcs}
 use Rattle.walks.specs.Rows.{has, rows, reach}
-use Rattle.walks.specs.Check.{onSides, inNet, successors, predecessors, outside, lost, unansweredOn, unanswered, passSays}
-use Rattle.walks.specs.Links.{unionOf, namedRows, linked, links, unlinked, filled, sizes, RowSurvey, surveySays}
+use Rattle.walks.specs.Check.{onSides, inNet, successors, predecessors, outside, lost, unansweredOn, unanswered, surveyed, passSays}
+use Rattle.walks.specs.Links.{unionOf, namedRows, linked, links, unlinked, filled, sizes, RowSurvey}
 use Rattle.walks.specs.declared.Survey.{Survey}
 use Rattle.walks.proofs.BelowLaws.{any-true, true-any, any-ext, member-those-at, those-are, those-lt, sum-ext, size-those}
 use Rattle.walks.proofs.RowLaws.{rows-long, rows-at, rows-all, rows-ext, has-row, member-union-of, sizes-rows}
@@ -198,9 +199,9 @@ module _ (net : Net) where
         ∙ ap₂ (λ (n p : List ℕ). union (minus (setOf net) (reach n (net .start))) (minus (setOf net) (reach p (net .end)))) links-successors links-predecessors
         ∙ outside-are (setOf net) (reach (successors net) (net .start)) (reach (predecessors net) (net .end)) h (reach-lt (successors net) successors-small (net .start)) (reach-lt (predecessors net) predecessors-small (net .end)) (λ k l. member-set-of k l hs he)
 
-    found-says : surveySays (r .lost) (r .unanswered) (r .arcs) ≡ passSays net
+    found-says : surveyed (r .lost) (r .unanswered) (accepted (r .arcs)) ≡ passSays net
     found-says = rw (lost-found, w .unanswered-are ∙ unlinked-unanswered, w .arcs-are ∙ ap sizes links-successors ∙ sizes-successors)
 
   pub rows-say : {inputs outputs : List ℕ} {all : ℕ} {r : Survey} → inputs ≡ rowsOn net Input → outputs ≡ rowsOn net Output → all ≡ setOf net
-      → all < 2 ^ 32 → net .start < 32 → net .end < 32 → RowSurvey inputs outputs (net .start) (net .end) all r → surveySays (r .lost) (r .unanswered) (r .arcs) ≡ passSays net
+      → all < 2 ^ 32 → net .start < 32 → net .end < 32 → RowSurvey inputs outputs (net .start) (net .end) all r → surveyed (r .lost) (r .unanswered) (accepted (r .arcs)) ≡ passSays net
   rows-say {inputs} {outputs} {all} {r} i o e h hs he w = found-says r (rw e at h) hs he (rw (i, o, e) at w)

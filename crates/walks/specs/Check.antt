@@ -91,9 +91,13 @@ lowestMember m = getD (members m) 0 0
 abbrev pub noneIn : ℕ → ℕ → Says → Says
 noneIn m n rest = unlessAt (eqb m 0) n (lowestMember m) rest
 
--- the rest of a chain if an orderly net passes, else refusal 6 or 19
+-- the rest of a chain if neither has a member, else refusal 6 with the lowest lost activity, or 19 with the lowest unanswered one
+abbrev pub surveyed : ℕ → ℕ → Says → Says
+surveyed lostOnes unansweredOnes rest = noneIn lostOnes on-no-walk (noneIn unansweredOnes name-unanswered rest)
+
+-- the rest of a chain if an orderly net passes
 abbrev pub passing : Net → Says → Says
-passing net rest = noneIn (lost net) on-no-walk (noneIn (unanswered net) name-unanswered rest)
+passing net rest = surveyed (lost net) (unanswered net) rest
 
 -- what the check says of an orderly net, and of any
 abbrev pub passSays : Net → Says

@@ -1,4 +1,4 @@
--- The definitions that the contracts of `walks` cite, and the statements proved of them. A reader of 01 needs all but the last
+-- The definitions that the contracts of `walks` cite, and the statements proved of them. A reader of 01 and of 02, (iv), needs all but the last
 -- file; Statements has what is proved.
 pub mod Below
 pub mod Arcs

@@ -5,13 +5,11 @@ use mathlib.Core.Bool.{not, _&&_}
 use mathlib.Core.List.{List, [], _∷_}
 use lib.Dec.{eqb}
 use lib.ListN.{getD}
+use Rattle.obligations.specs.Limits.{activities}
 use Rattle.obligations.specs.Sets.{member, union, minus, size}
 use Rattle.net.specs.Sides.{sideIn}
-use Rattle.obligations.specs.Limits.{activities}
 use Rattle.walks.specs.Below.{anyBelow, those}
 use Rattle.walks.specs.Rows.{has, rows, unionFrom, reach}
-use Rattle.net.specs.Refusals.{Says, accepted, on-no-walk, name-unanswered}
-use Rattle.walks.specs.Check.{noneIn}
 use Rattle.walks.specs.declared.Survey.{Survey}
 
 -- the members of each of the sets
@@ -49,7 +47,3 @@ pub record RowSurvey (inputs outputs : List ℕ) (start end all : ℕ) (r : Surv
   pub lost-are : r .lost ≡ union (minus all (reach (links outputs inputs) start)) (minus all (reach (links inputs outputs) end))
   pub unanswered-are : r .unanswered ≡ union (unlinked inputs (links inputs outputs)) (unlinked outputs (links outputs inputs))
   pub arcs-are : r .arcs ≡ sizes (links outputs inputs)
-
--- what the check says of an orderly net with these activities on no walk, these with a name that isn't answered, and so many arcs
-abbrev pub surveySays : ℕ → ℕ → ℕ → Says
-surveySays lost unanswered arcs = noneIn lost on-no-walk (noneIn unanswered name-unanswered (accepted arcs))

@@ -25,7 +25,7 @@ ArcTestRight = (net : Net) (p q : ℕ) → (arc net p q ≡ true) ↔ Arc net p 
 abbrev pub CheckListed : Type 0
 CheckListed = (net : Net) → AsListed (λ n p. checkMeans (Refused n p)) (checkRefusals net) (checkSays net)
 
--- 19 is said exactly of a net that is orderly and has all its activities on walks, with the lowest that names one which never
+-- 19 is said with a exactly if the net is orderly, all its activities are on walks, and a is the lowest that names one which never
 -- names it back
 abbrev pub UnansweredExactly : Type 0
 UnansweredExactly =

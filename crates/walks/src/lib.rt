@@ -16,10 +16,11 @@ ghost use mathlib.Core.Bool.{true};
 ghost use lib.ListN.{length};
 ghost use Rattle.obligations.specs.Limits.{activities};
 ghost use Rattle.obligations.specs.Sets.{union};
+ghost use Rattle.net.specs.Refusals.{accepted};
 ghost use Rattle.net.specs.Sides.{netOf};
 ghost use Rattle.net.specs.Orderly.{orderly};
-ghost use Rattle.walks.specs.Links.{unionOf, filled, RowSurvey, surveySays};
-ghost use Rattle.walks.specs.Check.{checkMeans, passSays, checkSays};
+ghost use Rattle.walks.specs.Links.{unionOf, filled, RowSurvey};
+ghost use Rattle.walks.specs.Check.{checkMeans, surveyed, passSays, checkSays};
 
 // Passed: the number of arcs. Refused: the refusal's number and the place that is returned with it.
 pub enum CheckAnswer {
@@ -57,7 +58,7 @@ pub fn check(net: Net) -> CheckAnswer
     )
 }
 
-// The check of an orderly net, with its arrays lent, so that the record isn't copied. Callers that have tested it call this.
+// The check of an orderly net, with its arrays lent, so that it isn't copied. Callers that have tested the record call this.
 pub fn check_lent<'a>(
     start: u32,
     end: u32,
@@ -82,7 +83,7 @@ pub fn check_lent<'a>(
 // What the check says of an orderly net with these activities on no walk, these with a name that isn't answered, and so many
 // arcs.
 fn told(lost: u32, unanswered: u32, arcs: u32) -> CheckAnswer
-    ensures { λ r. ⌜ checkMeans r ≡ surveySays lost unanswered arcs ⌝ }
+    ensures { λ r. ⌜ checkMeans r ≡ surveyed lost unanswered (accepted arcs) ⌝ }
 {
     if lost != 0 {
         return CheckAnswer::Refused {
