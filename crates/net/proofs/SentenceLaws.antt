@@ -3,7 +3,8 @@
 -- list; where it fails, its sentence holds at the place returned. So the answer is the first sentence of the list that holds.
 -- As the numbers ascend along the list in the papers' order, none before it holds; and as each sentence has one place, no other
 -- answer is as listed.
--- Of a file the same is done line by line. Assumes nothing.
+-- Of one sentence in such a list it follows that it is given exactly if none before it holds and it does. Of a file the same is done
+-- line by line. Assumes nothing.
 use Prim.Native.Nat.{ℕ, zero, suc, _≤_, _<_}
 use mathlib.Core.Path.{_≡_, refl, sym, ap, subst, _∙_}
 use mathlib.Core.Bool.{Bool, true, false, cond, _&&_}

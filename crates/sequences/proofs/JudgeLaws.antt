@@ -13,11 +13,13 @@ use Rattle.net.proofs.SideLaws.{length-side, side-at}
 use Rattle.net.proofs.ListLaws.{listed-here, listed-next, listed-end}
 use Rattle.obligations.specs.Trace.{shaped}
 use Rattle.obligations.specs.Sequence.{Binding, bindings, at}
-use Rattle.net.specs.Refusals.{accepted, refused}
+use Rattle.net.specs.Refusals.{refused}
 use Rattle.net.specs.Orderly.{orderly}
 use Rattle.net.specs.declared.Net.{Net}
-use Rattle.walks.specs.Check.{passing}
-use Rattle.walks.proofs.CheckLaws.{Clear, passing-rest, passing-refused}
+use Rattle.walks.specs.Check.{checkMeans, passSays}
+use Rattle.walks.specs.declared.CheckAnswer.{CheckAnswer}
+use Rattle.walks.specs.declared.CheckAnswer.the-variants as check
+use Rattle.walks.proofs.CheckLaws.{Clear, passing-rest, answer-refused}
 use Rattle.sequences.specs.Run.{ran}
 use Rattle.sequences.specs.Judge.{judgeMeans, firstMissing, runSays, judgePositions, judgeSays}
 use Rattle.sequences.specs.Inner.{limitsMeans, LimitsOf}
@@ -76,9 +78,9 @@ module _ (s : List Binding) where
   run-settled peak q = let f = settled-shown s peak q in rw (f .0, f .1, f .2)
 
 module _ (net : Net) (s : List Binding) where
-  pub judged-not-passing : (v n p : ℕ) → passing net (accepted v) ≡ refused n p → judgeMeans (Refused n p) ≡ judgePositions net s
+  pub judged-not-passing : (r : CheckAnswer) → checkMeans r ≡ passSays net → (n p : ℕ) → r ≡ check.Refused n p → judgeMeans (Refused n p) ≡ judgePositions net s
   unfolding judgePositions
-  judged-not-passing v n p e = sym (passing-refused net _ v n p e)
+  judged-not-passing r e n p q = sym (answer-refused net r e _ n p q)
 
   module _ (w : Clear net) where
     pub judged-ends : shaped (net .start) (net .end) (length s) (λ i. at s i .activity) ≡ false → judgeMeans (Refused 7 0) ≡ judgePositions net s

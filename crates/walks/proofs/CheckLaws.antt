@@ -26,7 +26,9 @@ use Rattle.net.proofs.ChainLaws.{unless-passes}
 use Rattle.walks.specs.Arcs.{Names, names, arcs}
 use Rattle.walks.specs.Walk.{InNet, the-start, the-end, with-a-set, in-a-set, OnWalk, Passes}
 use Rattle.walks.specs.Rows.{reach}
-use Rattle.walks.specs.Check.{inNet, successors, predecessors, outside, Lost, onNoWalk, Unanswered, nameUnanswered, checkRefusals, lost, unansweredOn, unanswered, lowestMember, passing, checkSays}
+use Rattle.walks.specs.Check.{inNet, successors, predecessors, outside, Lost, onNoWalk, Unanswered, nameUnanswered, checkRefusals, lost, unansweredOn, unanswered, lowestMember, checkMeans, passing, passSays, checkSays}
+use Rattle.walks.specs.declared.CheckAnswer.{CheckAnswer}
+use Rattle.walks.specs.declared.CheckAnswer.the-variants.{Passed, Refused}
 use Rattle.walks.proofs.BelowLaws.{any-true, true-any, member-those-at}
 use Rattle.walks.proofs.ArcLaws.{names-facts}
 use Rattle.walks.proofs.LinkLaws.{lost-lt, unanswered-lt}
@@ -182,6 +184,14 @@ module _ (net : Net) (rest : Says) where
       go true true q = absurd (false-not-true refl (sym (ap (λ (s : Says). s .ok) q)))
       go true false q = q
       go false t q = q
+
+-- what an answer of the check of an orderly net shows of a chain that goes on behind it
+module _ (net : Net) (r : CheckAnswer) (e : checkMeans r ≡ passSays net) where
+  pub answer-clear : (n : ℕ) → r ≡ Passed n → Clear net
+  answer-clear n q = passing-passes net (accepted (arcs net)) .0 (ap (λ (s : Says). s .ok) (sym e ∙ ap checkMeans q)) .0
+
+  pub answer-refused : (rest : Says) (n p : ℕ) → r ≡ Refused n p → passing net rest ≡ refused n p
+  answer-refused rest n p q = passing-refused net rest (arcs net) n p (sym e ∙ ap checkMeans q)
 
 -- ---- the call
 

@@ -1,15 +1,12 @@
 -- `judge_positions` meets its contract: each return is a link of the chain of refusals. Assumes nothing.
-use mathlib.Core.Path.{_≡_, sym, ap, _∙_}
+use mathlib.Core.Path.{_≡_, sym, _∙_}
 use mathlib.Core.Bool.{true}
 use lib.ListN.{length}
 use borrow.Author.Needs.{needs}
 use borrow.Author.Tests.{not-true, not-false}
 use Rattle.obligations.specs.Trace.{shaped}
 use Rattle.obligations.specs.Sequence.{bindings, at}
-use Rattle.net.specs.Refusals.{Says}
-use Rattle.walks.specs.Arcs.{arcs}
-use Rattle.walks.specs.Check.{checkMeans}
-use Rattle.walks.proofs.CheckLaws.{Clear, passing-passes}
+use Rattle.walks.proofs.CheckLaws.{Clear, answer-clear}
 use Rattle.sequences.proofs.WordLaws.{shaped-same}
 use Rattle.sequences.proofs.JudgeLaws.{judged-not-passing, judged-ends, judged-missing, judged-run}
 use Rattle.sequences.proofs.judging.judge_positions.Statement.{statement}
@@ -24,7 +21,7 @@ abbrev start-at : tie.After-enum-told → tie.Start
 start-at c = start-of (c .before .before)
 
 clear-here : (c : tie.After-enum-told) → Clear (start-at c .args .t1)
-clear-here c = passing-passes (start-at c .args .t1) _ .0 (ap (λ (s : Says). s .ok) (sym (c .before .before .check-lent .ensures) ∙ ap checkMeans (c .enum-told .given .1))) .0
+clear-here c = let k = c .before .before .check-lent in answer-clear (start-at c .args .t1) (k .result) (k .ensures) _ (c .enum-told .given .1)
 
 shaped-here : (c : tie.Else1)
     → let g = start-at (c .before .before) .args in
@@ -45,8 +42,8 @@ enum-known-checked c = search needs
 returns : tie.Need-returns
 returns c =
     let g = start-of (c .before .before .before) .args in
-    let k = c .before .checked .given in
-    judged-not-passing (g .t1) (bindings (g .words .now)) (arcs (g .t1)) (k .0 .0) (k .0 .1 .0) (sym (c .before .before .before .check-lent .ensures) ∙ ap checkMeans (k .1))
+    let k = c .before .before .before .check-lent in
+    judged-not-passing (g .t1) (bindings (g .words .now)) (k .result) (k .ensures) _ _ (c .before .checked .given .1)
 
 enum-told : tie.Need-enum-told
 enum-told c = search needs
