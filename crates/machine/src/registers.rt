@@ -1,5 +1,6 @@
 // The four registers of net records, in one array of words. The words of a record are its start, its end, the lengths of
-// the input lists and of the output lists by activity, the input masks and the output masks.
+// the input lists and of the output lists by activity, the input masks and the output masks, the input counts and the
+// output counts.
 
 use crate::answer::Answer;
 use net::LISTS;
@@ -11,17 +12,15 @@ ghost use lib.ListN.{length};
 
 pub const REGISTERS: u32 = 4;
 
-// Where a record's arrays stand among its words, behind its start and its end.
-const INPUT_LEN: usize = 2;
+// Where a record's arrays stand among its words, behind its start and its end: the inputs', and the outputs' behind them.
+const LENGTHS: usize = 2;
 
-const OUTPUT_LEN: usize = INPUT_LEN + LISTS;
+const MASKS: usize = LENGTHS + 2 * LISTS;
 
-const INPUTS: usize = OUTPUT_LEN + LISTS;
-
-const OUTPUTS: usize = INPUTS + PLACES;
+const COUNTS: usize = MASKS + 2 * PLACES;
 
 // A record has this many words.
-const WORDS: u32 = (OUTPUTS + PLACES) as u32;
+const WORDS: u32 = (COUNTS + 2 * PLACES) as u32;
 
 // The words of all registers.
 pub const RECORDS: usize = (REGISTERS * WORDS) as usize;
@@ -29,7 +28,7 @@ pub const RECORDS: usize = (REGISTERS * WORDS) as usize;
 // Where register r stands.
 fn place(r: u32) -> usize
     requires { ⌜ r < 4 ⌝ }
-    ensures { λ p. ⌜ p ≡ r * 1090 ⌝ }
+    ensures { λ p. ⌜ p ≡ r * 2114 ⌝ }
 {
     (r * WORDS) as usize
 }
@@ -39,14 +38,28 @@ pub fn load(records: &[u32; RECORDS], r: u32) -> Net
     requires { ⌜ r < 4 ⌝ }
 {
     let at = place(r);
-    let mut input_len = [0u32; LISTS];
-    let mut output_len = [0u32; LISTS];
     let mut inputs = [0u32; PLACES];
+    let mut input_len = [0u32; LISTS];
+    let mut input_counts = [0u32; PLACES];
     let mut outputs = [0u32; PLACES];
-    copy_words(records, at + INPUT_LEN, &mut input_len, 0, LISTS);
-    copy_words(records, at + OUTPUT_LEN, &mut output_len, 0, LISTS);
-    copy_words(records, at + INPUTS, &mut inputs, 0, PLACES);
-    copy_words(records, at + OUTPUTS, &mut outputs, 0, PLACES);
+    let mut output_len = [0u32; LISTS];
+    let mut output_counts = [0u32; PLACES];
+    load_sides(
+        records,
+        at,
+        0,
+        &mut inputs,
+        &mut input_len,
+        &mut input_counts,
+    );
+    load_sides(
+        records,
+        at,
+        1,
+        &mut outputs,
+        &mut output_len,
+        &mut output_counts,
+    );
     Net {
         start: records[at],
         end: records[at + 1],
@@ -54,6 +67,8 @@ pub fn load(records: &[u32; RECORDS], r: u32) -> Net
         outputs,
         input_len,
         output_len,
+        input_counts,
+        output_counts,
     }
 }
 
@@ -64,10 +79,53 @@ pub fn store(records: &mut [u32; RECORDS], r: u32, net: Net)
     let at = place(r);
     records[at] = net.start;
     records[at + 1] = net.end;
-    copy_words(&net.input_len, 0, records, at + INPUT_LEN, LISTS);
-    copy_words(&net.output_len, 0, records, at + OUTPUT_LEN, LISTS);
-    copy_words(&net.inputs, 0, records, at + INPUTS, PLACES);
-    copy_words(&net.outputs, 0, records, at + OUTPUTS, PLACES);
+    store_sides(
+        records,
+        at,
+        0,
+        &net.inputs,
+        &net.input_len,
+        &net.input_counts,
+    );
+    store_sides(
+        records,
+        at,
+        1,
+        &net.outputs,
+        &net.output_len,
+        &net.output_counts,
+    );
+}
+
+// The arrays of one kind of side of the record at a place: of the inputs, if the kind is 0, and of the outputs, if it is 1.
+fn load_sides(
+    records: &[u32; RECORDS],
+    at: usize,
+    kind: usize,
+    masks: &mut [u32; PLACES],
+    lengths: &mut [u32; LISTS],
+    counts: &mut [u32; PLACES],
+)
+    requires { ⌜ (at + 2114 ≤ 8456) × (kind < 2) ⌝ }
+{
+    copy_words(records, at + LENGTHS + kind * LISTS, lengths, 0, LISTS);
+    copy_words(records, at + MASKS + kind * PLACES, masks, 0, PLACES);
+    copy_words(records, at + COUNTS + kind * PLACES, counts, 0, PLACES);
+}
+
+fn store_sides<'a>(
+    records: &mut [u32; RECORDS],
+    at: usize,
+    kind: usize,
+    masks: &'a [u32; PLACES],
+    lengths: &'a [u32; LISTS],
+    counts: &'a [u32; PLACES],
+)
+    requires { ⌜ (at + 2114 ≤ 8456) × (kind < 2) ⌝ }
+{
+    copy_words(lengths, 0, records, at + LENGTHS + kind * LISTS, LISTS);
+    copy_words(masks, 0, records, at + MASKS + kind * PLACES, PLACES);
+    copy_words(counts, 0, records, at + COUNTS + kind * PLACES, PLACES);
 }
 
 // Each register becomes the fresh net of 0 and 1.
@@ -152,7 +210,7 @@ pub fn same(records: &[u32; RECORDS], r: u32, args: &[u32]) -> Answer
 
 // Whether the records at two places are equal in every word.
 fn are_same(records: &[u32; RECORDS], p: usize, q: usize) -> bool
-    requires { ⌜ (p + 1090 ≤ 4360) × (q + 1090 ≤ 4360) ⌝ }
+    requires { ⌜ (p + 2114 ≤ 8456) × (q + 2114 ≤ 8456) ⌝ }
 {
     let mut k = 0;
     while k < WORDS as usize {

@@ -9,11 +9,11 @@ use mathlib.Core.Bool.{true, false, _||_}
 use mathlib.Core.Logic.{_⊎_, inl, inr, ⊎-elim}
 use mathlib.Core.List.{List, [], _∷_, _++_}
 use lib.Dec.{ltb, eqb}
-use lib.ListN.{length, take, drop, getD, length-drop, drop-of-length-le}
-use lib.Seq.{take-all, take-nil, take-append-add, length-take-le, getD-drop, drop-cons}
+use lib.ListN.{length, take, drop, getD, length-take, length-drop, drop-of-length-le}
+use lib.Seq.{take-all, take-nil, take-append-add, length-take-le, getD-take, getD-drop, drop-cons}
 use borrow.Author.Tests.{ltb-true, eqb-true, lt-ltb, le-ltb, eq-eqb, ne-eqb}
-use Rattle.obligations.proofs.BoolLaws.{and-left, and-right, or-right, or-cases, false-not-true}
-use Rattle.net.specs.Lists.{listed, allListed, ascendsAbove, zeros}
+use Rattle.obligations.proofs.BoolLaws.{and-left, and-right, and-both, or-right, or-cases, false-not-true}
+use Rattle.net.specs.Lists.{listed, allListed, ascendsAbove, zeros, blank}
 
 -- ---- parts of a list
 
@@ -163,6 +163,33 @@ pub at-zeros : (l : List ℕ) → ((i : ℕ) → i < length l → getD l i 0 ≡
 unfolding zeros
 at-zeros [] h = refl
 at-zeros (x ∷ xs) h = rw (eq-eqb x 0 (h 0 (omega arith)), at-zeros xs (λ i l. h (suc i) (omega arith)))
+
+pub zeros-append : (l k : List ℕ) → zeros l ≡ true → zeros k ≡ true → zeros (l ++ k) ≡ true
+unfolding zeros
+zeros-append [] k h g = g
+zeros-append (x ∷ xs) k h g = and-both (and-left (eqb x 0) (zeros xs) h) (zeros-append xs k (and-right (eqb x 0) (zeros xs) h) g)
+
+pub zeros-part : (n k : ℕ) (l : List ℕ) → zeros l ≡ true → zeros (take n (drop k l)) ≡ true
+zeros-part n k l h =
+    at-zeros (take n (drop k l)) (λ i u. getD-take n (drop k l) i 0 (omega (arith, length-take n (drop k l))) ∙ getD-drop k l i 0 ∙ zeros-at l h (k + i))
+
+pub zeros-behind : (k : ℕ) (l : List ℕ) → zeros l ≡ true → zeros (drop k l) ≡ true
+zeros-behind k l h = at-zeros (drop k l) (λ i u. getD-drop k l i 0 ∙ zeros-at l h (k + i))
+
+pub zeros-more : (l : List ℕ) → zeros l ≡ true → zeros (0 ∷ l) ≡ true
+unfolding zeros
+zeros-more l h = h
+
+-- it is as many zeros
+pub zeros-blank : (l : List ℕ) → zeros l ≡ true → l ≡ blank (length l)
+unfolding zeros
+zeros-blank [] h = refl
+zeros-blank (x ∷ xs) h = let e = eqb-true x 0 (and-left (eqb x 0) (zeros xs) h) in rw e (ap (λ (r : List ℕ). 0 ∷ r) (zeros-blank xs (and-right (eqb x 0) (zeros xs) h)))
+
+pub blank-zeros : (n : ℕ) → zeros (blank n) ≡ true
+unfolding zeros
+blank-zeros zero = refl
+blank-zeros (suc n) = blank-zeros n
 
 -- one element fewer
 pub zeros-drop : (l : List ℕ) (i : ℕ) → zeros (drop i l) ≡ true → zeros (drop (i + 1) l) ≡ true

@@ -16,15 +16,15 @@ use Rattle.obligations.specs.Limits.{activities}
 use Rattle.obligations.proofs.BoolLaws.{and-left, and-right, false-not-true}
 use Rattle.net.specs.Limits.{sets, places}
 use Rattle.net.specs.Lists.{listed, zeros, ascendsAbove}
-use Rattle.net.specs.Sides.{masksOf, lengthsOf, emptyAt, block, setsOn, OnSide}
-use Rattle.net.specs.Inner.{Sides}
-use Rattle.net.specs.Orderly.{blockOk, endsOk, sidesOk, sized, orderly, SideOrderly, Orderly}
+use Rattle.net.specs.Sides.{masksOf, lengthsOf, countsOf, emptyAt, block, setsOn, OnSide}
+use Rattle.net.specs.Inner.{Sides, OrderlySides}
+use Rattle.net.specs.Orderly.{blockOk, endsOk, sidesOk, countsOk, sidesSized, sized, orderly, SideOrderly, Orderly}
 use Rattle.net.specs.declared.Net.{Net}
 use Rattle.net.specs.declared.Side.{Side}
 use Rattle.net.specs.declared.Side.the-variants.{Input, Output}
 use Rattle.net.proofs.BelowLaws.{below-true}
 use Rattle.net.proofs.ListLaws.{none-listed, ascends-at, at-ascends, ascends-not-listed, zeros-at, at-zeros}
-use Rattle.net.proofs.SideLaws.{OrderlySides, block-at, length-block, length-side, block-side, side-at, side-beyond, side-at-most, empty-side-ok, plain-side-ok, side-just-empty, sides-of-orderly}
+use Rattle.net.proofs.SideLaws.{OrderlyCounts, past-zero, zero-past, counts-past, past-counts, block-at, length-block, length-side, block-side, side-at, side-beyond, side-at-most, empty-side-ok, plain-side-ok, side-just-empty, sides-of-orderly}
 
 -- ---- the ends
 
@@ -45,35 +45,55 @@ facts-ends start end h k d = rw (lt-ltb start activities h, lt-ltb end activitie
 -- ---- the parts of the test
 
 module _ (net : Net) (h : orderly net ≡ true) where
-  both : Bool
-  both = sidesOk (net .inputs) (net .«input_len») (net .start) && sidesOk (net .outputs) (net .«output_len») (net .end)
+  sides : Bool
+  sides = sidesOk (net .inputs) (net .«input_len») (net .start) && sidesOk (net .outputs) (net .«output_len») (net .end)
 
-  pub orderly-ends : endsOk (net .start) (net .end) ≡ true
-  unfolding orderly both
-  orderly-ends = and-left (endsOk (net .start) (net .end)) both (and-right (sized net) (endsOk (net .start) (net .end) && both) h)
+  counts : Bool
+  counts = countsOk (net .«input_counts») (net .«input_len») && countsOk (net .«output_counts») (net .«output_len»)
 
   orderly-sized : sized net ≡ true
-  unfolding orderly both
-  orderly-sized = and-left (sized net) (endsOk (net .start) (net .end) && both) h
+  unfolding orderly sides counts
+  orderly-sized = and-left (sized net) (endsOk (net .start) (net .end) && (sides && counts)) h
 
-  orderly-both : both ≡ true
-  unfolding orderly both
-  orderly-both = and-right (endsOk (net .start) (net .end)) both (and-right (sized net) (endsOk (net .start) (net .end) && both) h)
+  beside-size : (endsOk (net .start) (net .end) && (sides && counts)) ≡ true
+  unfolding orderly sides counts
+  beside-size = and-right (sized net) (endsOk (net .start) (net .end) && (sides && counts)) h
+
+  pub orderly-ends : endsOk (net .start) (net .end) ≡ true
+  orderly-ends = and-left (endsOk (net .start) (net .end)) (sides && counts) beside-size
+
+  orderly-both : (sides && counts) ≡ true
+  orderly-both = and-right (endsOk (net .start) (net .end)) (sides && counts) beside-size
 
   orderly-oks : (side : Side) → sidesOk (masksOf net side) (lengthsOf net side) (emptyAt net side) ≡ true
-  unfolding both
-  orderly-oks Input = and-left _ (sidesOk (net .outputs) (net .«output_len») (net .end)) orderly-both
-  orderly-oks Output = and-right (sidesOk (net .inputs) (net .«input_len») (net .start)) _ orderly-both
+  unfolding sides
+  orderly-oks Input = and-left _ (sidesOk (net .outputs) (net .«output_len») (net .end)) (and-left sides counts orderly-both)
+  orderly-oks Output = and-right (sidesOk (net .inputs) (net .«input_len») (net .start)) _ (and-left sides counts orderly-both)
+
+  counts-oks : (side : Side) → countsOk (countsOf net side) (lengthsOf net side) ≡ true
+  unfolding counts
+  counts-oks Input = and-left _ (countsOk (net .«output_counts») (net .«output_len»)) (and-right sides counts orderly-both)
+  counts-oks Output = and-right (countsOk (net .«input_counts») (net .«input_len»)) _ (and-right sides counts orderly-both)
+
+  side-sized : (side : Side) → sidesSized (masksOf net side) (lengthsOf net side) (countsOf net side) ≡ true
+  unfolding sized
+  side-sized Input = and-left _ (sidesSized (net .outputs) (net .«output_len») (net .«output_counts»)) orderly-sized
+  side-sized Output = and-right (sidesSized (net .inputs) (net .«input_len») (net .«input_counts»)) _ orderly-sized
 
   masks-long : (side : Side) → length (masksOf net side) ≡ places
-  unfolding sized
-  masks-long Input = eqb-true _ _ (and-left _ (eqb (length (net .outputs)) places && (eqb (length (net .«input_len»)) activities && eqb (length (net .«output_len»)) activities)) orderly-sized)
-  masks-long Output = eqb-true _ _ (and-left _ (eqb (length (net .«input_len»)) activities && eqb (length (net .«output_len»)) activities) (and-right (eqb (length (net .inputs)) places) _ orderly-sized))
+  masks-long side = eqb-true _ _ (and-left (eqb (length (masksOf net side)) places) (eqb (length (lengthsOf net side)) activities && eqb (length (countsOf net side)) places) (side-sized side))
+
+  beside-masks : (side : Side) → (eqb (length (lengthsOf net side)) activities && eqb (length (countsOf net side)) places) ≡ true
+  beside-masks side = and-right (eqb (length (masksOf net side)) places) (eqb (length (lengthsOf net side)) activities && eqb (length (countsOf net side)) places) (side-sized side)
 
   lengths-long : (side : Side) → length (lengthsOf net side) ≡ activities
-  unfolding sized
-  lengths-long Input = eqb-true _ _ (and-left _ (eqb (length (net .«output_len»)) activities) (and-right (eqb (length (net .outputs)) places) _ (and-right (eqb (length (net .inputs)) places) _ orderly-sized)))
-  lengths-long Output = eqb-true _ _ (and-right (eqb (length (net .«input_len»)) activities) _ (and-right (eqb (length (net .outputs)) places) _ (and-right (eqb (length (net .inputs)) places) _ orderly-sized)))
+  lengths-long side = eqb-true _ _ (and-left (eqb (length (lengthsOf net side)) activities) (eqb (length (countsOf net side)) places) (beside-masks side))
+
+  counts-long : (side : Side) → length (countsOf net side) ≡ places
+  counts-long side = eqb-true _ _ (and-right (eqb (length (lengthsOf net side)) activities) (eqb (length (countsOf net side)) places) (beside-masks side))
+
+  pub orderly-counts : (side : Side) → OrderlyCounts (countsOf net side) (lengthsOf net side)
+  orderly-counts side = record { counts-long = counts-long side; all-zero = counts-oks side }
 
   pub orderly-sides : (side : Side) → OrderlySides (masksOf net side) (lengthsOf net side) (emptyAt net side)
   orderly-sides side = record { masks-long = masks-long side; lengths-long = lengths-long side; all-ok = orderly-oks side }
@@ -97,17 +117,22 @@ module _ (net : Net) (h : orderly net ≡ true) where
   pub sets-length : (side : Side) (a : ℕ) → a < activities → length (setsOn net side a) ≡ getD (lengthsOf net side) a 0
   sets-length side a k = length-side (masksOf net side) (lengthsOf net side) a (masks-long side) k (orderly-at-most side a k)
 
-pub parts-orderly : (net : Net) → endsOk (net .start) (net .end) ≡ true → ((side : Side) → OrderlySides (masksOf net side) (lengthsOf net side) (emptyAt net side)) → orderly net ≡ true
+pub parts-orderly : (net : Net) → endsOk (net .start) (net .end) ≡ true → ((side : Side) → OrderlySides (masksOf net side) (lengthsOf net side) (emptyAt net side))
+    → ((side : Side) → OrderlyCounts (countsOf net side) (lengthsOf net side)) → orderly net ≡ true
 unfolding orderly sized
-parts-orderly net e o =
+parts-orderly net e o c =
     rw (
       eq-eqb (length (net .inputs)) places (o Input .masks-long),
       eq-eqb (length (net .outputs)) places (o Output .masks-long),
       eq-eqb (length (net .«input_len»)) activities (o Input .lengths-long),
       eq-eqb (length (net .«output_len»)) activities (o Output .lengths-long),
+      eq-eqb (length (net .«input_counts»)) places (c Input .counts-long),
+      eq-eqb (length (net .«output_counts»)) places (c Output .counts-long),
       e,
       o Input .all-ok,
       o Output .all-ok,
+      c Input .all-zero,
+      c Output .all-zero,
     )
 
 -- ---- the test gives the facts
@@ -115,6 +140,9 @@ parts-orderly net e o =
 module _ (net : Net) (o : orderly net ≡ true) (side : Side) (a : ℕ) (h : a < activities) where
   sides-here : OrderlySides (masksOf net side) (lengthsOf net side) (emptyAt net side)
   sides-here = orderly-sides net o side
+
+  counts-zero : (i : ℕ) → getD (lengthsOf net side) a 0 ≤ i → i < sets → getD (countsOf net side) (sets * a + i) 0 ≡ 0
+  counts-zero i l k = past-zero (countsOf net side) a (getD (lengthsOf net side) a 0) i (counts-past (countsOf net side) (lengthsOf net side) (orderly-counts net o side) a h) l k
 
   empty-facts : a ≡ emptyAt net side → SideOrderly net side a
   empty-facts e =
@@ -125,20 +153,19 @@ module _ (net : Net) (o : orderly net ≡ true) (side : Side) (a : ℕ) (h : a <
         just-empty = side-just-empty (masksOf net side) (lengthsOf net side) (emptyAt net side) sides-here a h;
         never-empty = λ d. absurd (d e);
         unused-zero = λ i l k. sym (block-at (masksOf net side) a i k) ∙ zeros-at (block (masksOf net side) a) (f .1) i;
+        unused-uncounted = counts-zero;
       }
 
   plain-facts : (a ≡ emptyAt net side → ⊥) → SideOrderly net side a
   plain-facts d =
-      let n = getD (lengthsOf net side) a 0 in
       let f = plain-side-ok (masksOf net side) (lengthsOf net side) (emptyAt net side) sides-here a h d in
       record {
         at-most = orderly-at-most net o side a h;
         ascending = λ i l. ascends-at 0 (setsOn net side a) (f .0) i (omega (arith, sets-length net o side a h));
         just-empty = λ e. absurd (d e);
         never-empty = λ q. ascends-not-listed 0 0 (setsOn net side a) (le-refl 0) (f .0);
-        unused-zero = λ i l k.
-            let e : n + (i - n) ≡ i = omega arith in
-            sym (block-at (masksOf net side) a i k) ∙ sym (ap (λ (j : ℕ). getD (block (masksOf net side) a) j 0) e) ∙ sym (getD-drop n (block (masksOf net side) a) (i - n) 0) ∙ zeros-at (drop n (block (masksOf net side) a)) (f .1) (i - n);
+        unused-zero = λ i l k. past-zero (masksOf net side) a (getD (lengthsOf net side) a 0) i (f .1) l k;
+        unused-uncounted = counts-zero;
       }
 
   pub orderly-side : SideOrderly net side a
@@ -150,6 +177,7 @@ orderly-facts net h =
     record {
       masks-long = λ side. orderly-sides net h side .masks-long;
       lengths-long = λ side. orderly-sides net h side .lengths-long;
+      counts-long = λ side. orderly-counts net h side .counts-long;
       start-activity = e .0;
       end-activity = e .1;
       differ = e .2;
@@ -184,13 +212,7 @@ module _ (net : Net) (side : Side) (a : ℕ) (h : a < activities) (long : length
       place (suc i) k = f .unused-zero (suc i) (omega (arith, one)) k
 
   plain-zeros : zeros (drop (getD (lengthsOf net side) a 0) (block (masksOf net side) a)) ≡ true
-  plain-zeros =
-      let n = getD (lengthsOf net side) a 0 in
-      let b = block (masksOf net side) a in
-      at-zeros (drop n b)
-      (λ i l.
-      let k : n + i < sets = omega (arith, length-block (masksOf net side) a long h, simp length-drop at l) in
-      getD-drop n b i 0 ∙ block-at (masksOf net side) a (n + i) k ∙ f .unused-zero (n + i) (omega arith) k)
+  plain-zeros = zero-past (masksOf net side) a (getD (lengthsOf net side) a 0) long h (f .unused-zero)
 
   facts-block : blockOk (block (masksOf net side) a) (getD (lengthsOf net side) a 0) (eqb a (emptyAt net side)) ≡ true
   unfolding blockOk
@@ -211,3 +233,4 @@ facts-orderly net f =
           below-true activities (λ a. blockOk (block (masksOf net side) a) (getD (lengthsOf net side) a 0) (eqb a (emptyAt net side)))
           (λ a h. facts-block net side a h (f .masks-long side) (f .sides side a h));
     })
+    (λ side. past-counts (countsOf net side) (lengthsOf net side) (f .counts-long side) (λ a h. zero-past (countsOf net side) a (getD (lengthsOf net side) a 0) (f .counts-long side) h (f .sides side a h .unused-uncounted)))

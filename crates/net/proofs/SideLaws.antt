@@ -1,36 +1,56 @@
 -- Laws of the sides of one kind, in arrays of masks and lengths of which every side is as it has to be: what each side
 -- is. Each is read off the test of the side's 16 places. Assumes nothing.
-use Prim.Native.Nat.{ℕ, _+_, _*_, _<_, _≤_}
+use Prim.Native.Nat.{ℕ, _+_, _*_, _-_, _<_, _≤_}
+use native.Mathlib.Decide.{ℕ-discrete as decEq}
 use native.Mathlib.Omega.{arith}
-use mathlib.Core.Path.{_≡_, sym, _∙_}
+use mathlib.Core.Path.{_≡_, sym, ap, _∙_}
 use mathlib.Core.Bool.{Bool, true, false, _&&_}
 use mathlib.Core.List.{List, [], _∷_}
 use lib.Dec.{leb, eqb}
-use lib.ListN.{length, take, drop, getD, length-take, List·getD-eq-default}
-use lib.Seq.{take-take, getD-take, getD-drop}
+use lib.ListN.{length, take, drop, getD, length-take, length-drop, List·getD-eq-default}
+use lib.Seq.{take-take, drop-drop, getD-take, getD-drop}
 use borrow.Author.Tests.{leb-true, eqb-true, eq-eqb, ne-eqb}
 use Rattle.obligations.specs.Limits.{activities, masks}
 use Rattle.obligations.proofs.BoolLaws.{and-left, and-right}
 use Rattle.net.specs.Limits.{sets, places}
 use Rattle.net.specs.Lists.{listed, ascendsAbove, zeros}
 use Rattle.net.specs.Sides.{masksOf, lengthsOf, block, sideIn, OnSide, Masks}
-use Rattle.net.specs.Inner.{Sides}
-use Rattle.net.specs.Orderly.{blockOk, sidesOk}
+use Rattle.net.specs.Inner.{Sides, OrderlySides}
+use Rattle.net.specs.Orderly.{blockOk, sidesOk, countsOk}
 use Rattle.net.specs.declared.Net.{Net}
 use Rattle.net.specs.declared.Side.{Side}
-use Rattle.net.proofs.BelowLaws.{below-at}
-use Rattle.net.proofs.ListLaws.{length-part, zeros-at, listed-below}
+use Rattle.net.proofs.BelowLaws.{below-at, below-true}
+use Rattle.net.proofs.PlaceLaws.{Ascending, above-ascending, one-ascends}
+use Rattle.net.proofs.ListLaws.{length-part, drop-take, zeros-at, at-zeros, listed-below}
 
--- arrays as long as the record's, of which every side is as it has to be
-pub record OrderlySides (masks lengths : List ℕ) (empty : ℕ) : Type 0 where
-  pub masks-long : length masks ≡ places
-  pub lengths-long : length lengths ≡ activities
-  pub all-ok : sidesOk masks lengths empty ≡ true
+-- an array of counts as long as the record's, with 0 past each side's sets
+pub record OrderlyCounts (counts lengths : List ℕ) : Type 0 where
+  pub counts-long : length counts ≡ places
+  pub all-zero : countsOk counts lengths ≡ true
 
 -- ---- places and lengths
 
 pub block-at : (masks : List ℕ) (a i : ℕ) → i < sets → getD (block masks a) i 0 ≡ getD masks (sets * a + i) 0
 block-at masks a i h = rw (getD-take sets (drop (sets * a) masks) i 0 h, getD-drop (sets * a) masks i 0)
+
+-- the places of activity a past the first n are zero, as a test and place by place
+pub past-zero : (l : List ℕ) (a n i : ℕ) → zeros (drop n (block l a)) ≡ true → n ≤ i → i < sets → getD l (sets * a + i) 0 ≡ 0
+past-zero l a n i z h k =
+    let e : n + (i - n) ≡ i = omega arith in
+    sym (block-at l a i k) ∙ sym (ap (λ (j : ℕ). getD (block l a) j 0) e) ∙ sym (getD-drop n (block l a) (i - n) 0) ∙ zeros-at (drop n (block l a)) z (i - n)
+
+pub zero-past : (l : List ℕ) (a n : ℕ) → length l ≡ places → a < activities → ((i : ℕ) → n ≤ i → i < sets → getD l (sets * a + i) 0 ≡ 0) → zeros (drop n (block l a)) ≡ true
+zero-past l a n long h f =
+    at-zeros (drop n (block l a))
+    (λ i u.
+    let k : n + i < sets = omega (arith, length-part l (sets * a) sets (omega arith), simp length-drop at u) in
+    getD-drop n (block l a) i 0 ∙ block-at l a (n + i) k ∙ f (n + i) (omega arith) k)
+
+-- they are the part from the n-th place of activity a to its last
+pub past-part : (l : List ℕ) (a n : ℕ) → n ≤ sets → take (sets * a + sets - (sets * a + n)) (drop (sets * a + n) l) ≡ drop n (block l a)
+past-part l a n h =
+    let e : sets * a + sets - (sets * a + n) ≡ sets - n = omega arith in
+    rw (e, drop-take n sets (drop (sets * a) l), drop-drop n (sets * a) l)
 
 pub length-block : (masks : List ℕ) (a : ℕ) → length masks ≡ places → a < activities → length (block masks a) ≡ sets
 length-block masks a long h = length-part masks (sets * a) sets (omega arith)
@@ -100,6 +120,25 @@ module _ (masks lengths : List ℕ) (empty : ℕ) (o : OrderlySides masks length
       just-zero [] e h = absurd (omega arith)
       just-zero (x ∷ []) e h = rw h
       just-zero (x ∷ y ∷ ys) e h = absurd (omega arith)
+
+  -- a side ascends, whether it holds just the empty set or others
+  pub side-ascending : Ascending (sideIn masks lengths a)
+  side-ascending = elim (decEq a empty) [
+    | yes e ↦ rw (side-just-empty e) (one-ascends 0)
+    | no d ↦ above-ascending 0 (sideIn masks lengths a) (plain-side-ok d .0)
+  ]
+
+-- a place of the counts past a side's sets is zero
+pub counts-past : (counts lengths : List ℕ) → OrderlyCounts counts lengths → (a : ℕ) → a < activities → zeros (drop (getD lengths a 0) (block counts a)) ≡ true
+unfolding countsOk
+counts-past counts lengths o a h = below-at activities (λ b. zeros (drop (getD lengths b 0) (block counts b))) a h (o .all-zero)
+
+pub past-counts : (counts lengths : List ℕ) → length counts ≡ places → ((a : ℕ) → a < activities → zeros (drop (getD lengths a 0) (block counts a)) ≡ true) → OrderlyCounts counts lengths
+unfolding countsOk
+past-counts counts lengths long f = record { counts-long = long; all-zero = below-true activities (λ b. zeros (drop (getD lengths b 0) (block counts b))) f }
+
+pub counts-sides : (masks lengths counts : List ℕ) (empty : ℕ) → OrderlySides masks lengths empty → length counts ≡ places → Sides counts lengths
+counts-sides masks lengths counts empty o long = record { masks-long = long; lengths-long = o .lengths-long; at-most = side-at-most masks lengths empty o }
 
 pub sides-of-orderly : (masks lengths : List ℕ) (empty : ℕ) → OrderlySides masks lengths empty → Sides masks lengths
 sides-of-orderly masks lengths empty o = record { masks-long = o .masks-long; lengths-long = o .lengths-long; at-most = side-at-most masks lengths empty o }

@@ -2,9 +2,9 @@
 use Prim.Native.Nat.{ℕ, _*_}
 use native.Mathlib.Omega.{arith}
 use borrow.Author.Tests.{ne-eqb}
-use mathlib.Core.Path.{_≡_, refl, sym, ap}
+use mathlib.Core.Path.{_≡_, refl, sym, ap, _∙_}
 use mathlib.Core.Bool.{Bool, true, false, not, cond}
-use mathlib.Core.Logic.{_↔_, _⊎_, ⊎-elim}
+use mathlib.Core.Logic.{_↔_, ⊎-elim}
 use Rattle.obligations.specs.Tests.{indicator}
 use Rattle.obligations.proofs.BoolLaws.{true-or-false, false-not-true}
 use Rattle.net.specs.Refusals.{Says, accepted, refused, name-unanswered}
@@ -15,13 +15,14 @@ use Rattle.net.specs.Orderly.{Orderly, endsOk, orderly}
 use Rattle.net.specs.Fresh.{freshNet, freshRefusals, freshSays, freshGives}
 use Rattle.net.specs.Put.{putRefusals, putSays, putGives}
 use Rattle.net.specs.Contained.{Contained, contained, containedSays}
-use Rattle.net.specs.Statements.{PapersOrder, OrderlyTestRight, ContainedTestRight, FreshSaid, FreshHolds, FreshRefused, Put, PutSaid, PutHolds, PutRefusedSame, ContainedSaid, FreshListed, PutListed, ContainedListed}
+use Rattle.net.specs.Statements.{PapersOrder, OrderlyTestRight, ContainedTestRight, FreshSaid, FreshHolds, FreshRefused, Put, PutSaid, PutHolds, PutRefusedSame, ContainedSaid, ContainedPassesOver, FreshListed, PutListed, ContainedListed}
 use Rattle.net.specs.declared.Net.{Net}
 use Rattle.net.specs.declared.Side.{Side}
 use Rattle.net.proofs.SentenceLaws.{Told, told-accepted, told-value}
 use Rattle.net.proofs.OrderlyLaws.{orderly-facts, facts-orderly}
-use Rattle.net.proofs.FreshLaws.{fresh-start, fresh-end, fresh-on-side, fresh-orderly}
-use Rattle.net.proofs.PutLaws.{put-refused, put-accepted, put-start, put-end, put-orderly, put-on-side, put-size}
+use Rattle.net.proofs.FreshLaws.{fresh-start, fresh-end, fresh-on-side, fresh-unused, fresh-orderly}
+use Rattle.net.proofs.PutLaws.{put-refused, put-accepted, put-start, put-end, put-orderly, put-on-side, put-size, put-count}
+use Rattle.net.proofs.UncountedLaws.{passes-over, first-uncounted, second-uncounted}
 use Rattle.net.proofs.ContainedLaws.{contained-facts, facts-contained}
 use Rattle.net.proofs.RefusalLaws.{fresh-told, fresh-listed, put-told, put-listed, contained-listed}
 
@@ -62,6 +63,7 @@ fresh-holds start end e =
       end-is = fresh-end start end;
       is-orderly = orderly-facts _ (fresh-orderly start end (h .0));
       two-empty = fresh-on-side start end (h .0);
+      unused = fresh-unused start end (h .0);
     })
 
 pub fresh-refused : FreshRefused
@@ -94,6 +96,7 @@ put-with net side a m new e =
       is-orderly = orderly-facts _ (put-orderly net side a m (put-accepted net side a m ok .0));
       on-sides = put-on-side net side a m ok;
       grown-by = rw (← ap (λ (s : Says). s .value) e) (put-size net side a m ok);
+      same-counts = put-count net side a m (put-accepted net side a m ok .0);
     }
 
 pub put-holds : PutHolds
@@ -145,6 +148,10 @@ contained-said net other =
   where
     not-contained : (Contained net other → ⊥) → contained net other ≡ false
     not-contained n = ⊎-elim (λ t. absurd (n (contained-facts net other t))) (λ f. f) (true-or-false (contained net other))
+
+pub contained-passes-over : ContainedPassesOver
+contained-passes-over net net′ other other′ o o′ q q′ e f =
+    passes-over (λ n. containedSays n other) (first-uncounted other) net net′ o o′ e ∙ passes-over (containedSays net′) (second-uncounted net′) other other′ q q′ f
 
 -- ---- the refusals
 

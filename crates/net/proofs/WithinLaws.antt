@@ -1,5 +1,5 @@
--- Nets within nets: orderly nets that contain each other are the same record, and a set of a net fits into every net that it
--- contains. Assumes nothing.
+-- Nets within nets: orderly nets that contain each other are the same record but for the counts, and a set of a net fits into
+-- every net that it contains. Assumes nothing.
 use Prim.Native.Nat.{ℕ, _+_, _*_, _/_, _%_, _<_}
 use native.Mathlib.Decide.{ℕ-discrete as decEq, decLt}
 use native.Mathlib.Omega.{arith}
@@ -15,7 +15,7 @@ use Rattle.obligations.specs.Limits.{activities}
 use Rattle.obligations.proofs.BoolLaws.{true-or-false, or-cases}
 use Rattle.net.specs.Limits.{sets, places}
 use Rattle.net.specs.Lists.{listed, insert}
-use Rattle.net.specs.Sides.{masksOf, lengthsOf, emptyAt, setsOn, OnSide}
+use Rattle.net.specs.Sides.{masksOf, lengthsOf, emptyAt, SameButCounts, setsOn, OnSide}
 use Rattle.net.specs.Orderly.{orderly}
 use Rattle.net.specs.Put.{misplaced, sideSays, putSays, putGives}
 use Rattle.net.specs.Contained.{Contained}
@@ -29,12 +29,10 @@ use Rattle.net.proofs.OrderlyLaws.{orderly-sides, orderly-side, orderly
 use Rattle.net.proofs.PutLaws.{put-says-side, put-start, put-end, put-on-side}
 use Rattle.net.proofs.AscendingLaws.{ascending-within, ascending-same}
 
--- ---- an orderly record is determined by its start, its end and its sides
+-- ---- an orderly record is determined by its start, its end and its sides, but for the counts
 
-net-ext : (x : Net) (start end : ℕ) (inputs input-len outputs output-len : List ℕ) → x .start ≡ start → x .end ≡ end
-    → x .inputs ≡ inputs → x .«input_len» ≡ input-len → x .outputs ≡ outputs → x .«output_len» ≡ output-len
-    → x ≡ record { start = start; end = end; inputs = inputs; outputs = outputs; «input_len» = input-len; «output_len» = output-len }
-net-ext x start end inputs input-len outputs output-len s e i il o ol = rw (← s, ← e, ← i, ← il, ← o, ← ol)
+same-arrays : (x y : Net) → x .start ≡ y .start → x .end ≡ y .end → ((side : Side) → masksOf x side ≡ masksOf y side) → ((side : Side) → lengthsOf x side ≡ lengthsOf y side) → SameButCounts x y
+same-arrays x y s e m l = rw (s, e, m Input, m Output, l Input, l Output)
 
 -- each place of an orderly net's array is the side's, or zero past it
 place-at : (net : Net) → orderly net ≡ true → (side : Side) (a k : ℕ) → a < activities → k < sets → getD (masksOf net side) (sets * a + k) 0 ≡ getD (setsOn net side a) k 0
@@ -63,17 +61,17 @@ module _ (x y : Net) (o : orderly x ≡ true) (q : orderly y ≡ true) (same : (
       ∙ sym (place-at y q side (i / sets) (i % sets) a k)
       ∙ ap (λ (j : ℕ). getD (masksOf y side) j 0) e)
 
-  same-sides : x .start ≡ y .start → x .end ≡ y .end → x ≡ y
-  same-sides s e = net-ext x (y .start) (y .end) (y .inputs) (y .«input_len») (y .outputs) (y .«output_len») s e (same-masks Input) (same-lengths Input) (same-masks Output) (same-lengths Output)
+  same-sides : x .start ≡ y .start → x .end ≡ y .end → SameButCounts x y
+  same-sides s e = same-arrays x y s e same-masks same-lengths
 
--- ---- orderly nets that contain each other are equal
+-- ---- orderly nets that contain each other are equal, but for the counts
 
 -- nets with the same start and end have the empty set on the same sides
 pub same-empty : (x y : Net) (side : Side) → x .start ≡ y .start → x .end ≡ y .end → emptyAt x side ≡ emptyAt y side
 same-empty x y Input s e = s
 same-empty x y Output s e = e
 
-pub contained-same : (x y : Net) → orderly x ≡ true → orderly y ≡ true → Contained x y → Contained y x → x ≡ y
+pub contained-same : (x y : Net) → orderly x ≡ true → orderly y ≡ true → Contained x y → Contained y x → SameButCounts x y
 contained-same x y o q f g = same-sides x y o q same (f .same-start) (f .same-end)
   where
     same : (side : Side) (a : ℕ) → a < activities → setsOn x side a ≡ setsOn y side a

@@ -11,6 +11,7 @@ use Rattle.net.specs.Refusals.{Says, accepted, refused, bad-ends}
 use Rattle.net.specs.Sentences.{Sentence, whole}
 use Rattle.net.specs.Chains.{unless}
 use Rattle.net.specs.Lists.{blank}
+use Rattle.net.specs.Sides.{netOf}
 use Rattle.net.specs.Orderly.{endsOk}
 use Rattle.net.specs.declared.Net.{Net}
 use Rattle.net.specs.declared.FreshAnswer.{FreshAnswer}
@@ -19,7 +20,7 @@ use Rattle.net.specs.declared.FreshResult.{FreshResult}
 
 unfoldable pub freshNet : ℕ → ℕ → Net
 freshNet start end =
-    record { start = start; end = end; inputs = blank places; outputs = blank places; «input_len» = set (blank activities) start 1; «output_len» = set (blank activities) end 1 }
+    netOf start end (blank places) (set (blank activities) start 1) (blank places) (set (blank activities) end 1)
 
 -- what each answer means
 abbrev pub freshMeans : FreshAnswer → Says

@@ -8,3 +8,7 @@ sets = 16
 -- the places of all sides of one kind: 16 for each of the 32 activities
 abbrev pub places : ℕ
 places = 512
+
+-- a set's count of uses is at most this (02, (viii))
+abbrev pub highestCount : ℕ
+highestCount = 4294967295

@@ -1,7 +1,7 @@
 -- Lists of masks: tests that compute, and insertion into an ascending list.
-use Prim.Native.Nat.{ℕ, zero, suc, _≤_, min, max}
+use Prim.Native.Nat.{ℕ, zero, suc, _≤_}
 use mathlib.Core.Path.{_≡_}
-use mathlib.Core.Bool.{Bool, true, false, not, _&&_, _||_}
+use mathlib.Core.Bool.{Bool, true, false, cond, not, _&&_, _||_}
 use mathlib.Core.List.{List, [], _∷_, _++_}
 use lib.Dec.{ltb, eqb}
 use lib.ListN.{length, take, drop, replicate}
@@ -40,10 +40,18 @@ unfoldable pub zeros : List ℕ → Bool
 zeros [] = true
 zeros (x ∷ xs) = eqb x 0 && zeros xs
 
+-- the list with x in place i, and those from there on moved behind it
+unfoldable pub insertAt : ℕ → ℕ → List ℕ → List ℕ
+insertAt i x l = take i l ++ (x ∷ drop i l)
+
+-- the place of m in an ascending list: behind those below it
+unfoldable pub placeIn : ℕ → List ℕ → ℕ
+placeIn m [] = 0
+placeIn m (x ∷ xs) = cond (ltb x m) (suc (placeIn m xs)) 0
+
 -- an ascending list with m, which is none of its elements, in its place
 unfoldable pub insert : ℕ → List ℕ → List ℕ
-insert m [] = m ∷ []
-insert m (x ∷ xs) = min m x ∷ insert (max m x) xs
+insert m l = insertAt (placeIn m l) m l
 
 -- n zeros
 abbrev pub blank : ℕ → List ℕ

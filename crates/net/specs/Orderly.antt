@@ -8,7 +8,7 @@ use lib.ListN.{length, getD, take, drop}
 use Rattle.obligations.specs.Limits.{activities}
 use Rattle.net.specs.Limits.{sets, places}
 use Rattle.net.specs.Lists.{allBelow, listed, ascendsAbove, zeros}
-use Rattle.net.specs.Sides.{masksOf, lengthsOf, emptyAt, block, setsOn}
+use Rattle.net.specs.Sides.{masksOf, lengthsOf, countsOf, emptyAt, block, setsOn}
 use Rattle.net.specs.declared.Net.{Net}
 use Rattle.net.specs.declared.Side.{Side}
 
@@ -34,12 +34,24 @@ blockOk b n only = cond only (emptyBlock b n) (plainBlock b n)
 unfoldable pub sidesOk : List ℕ → List ℕ → ℕ → Bool
 sidesOk masks lengths empty = allBelow activities (λ a. blockOk (block masks a) (getD lengths a 0) (eqb a empty))
 
--- the lists are as long as the record's arrays, which holds of every record in a program
+-- the places past a side's sets have count 0, on every side of one kind (02, (viii))
+unfoldable pub countsOk : List ℕ → List ℕ → Bool
+countsOk counts lengths = allBelow activities (λ a. zeros (drop (getD lengths a 0) (block counts a)))
+
+-- the lists of one kind of side are as long as the record's arrays
+abbrev pub sidesSized : List ℕ → List ℕ → List ℕ → Bool
+sidesSized masks lengths counts = eqb (length masks) places && (eqb (length lengths) activities && eqb (length counts) places)
+
+-- all lists are, which holds of every record in a program
 unfoldable pub sized : Net → Bool
-sized net = eqb (length (net .inputs)) places && (eqb (length (net .outputs)) places && (eqb (length (net .«input_len»)) activities && eqb (length (net .«output_len»)) activities))
+sized net = sidesSized (net .inputs) (net .«input_len») (net .«input_counts») && sidesSized (net .outputs) (net .«output_len») (net .«output_counts»)
 
 unfoldable pub orderly : Net → Bool
-orderly net = sized net && (endsOk (net .start) (net .end) && (sidesOk (net .inputs) (net .«input_len») (net .start) && sidesOk (net .outputs) (net .«output_len») (net .end)))
+orderly net =
+    sized net
+    && (endsOk (net .start) (net .end)
+    && ((sidesOk (net .inputs) (net .«input_len») (net .start) && sidesOk (net .outputs) (net .«output_len») (net .end))
+    && (countsOk (net .«input_counts») (net .«input_len») && countsOk (net .«output_counts») (net .«output_len»))))
 
 -- ---- the facts
 
@@ -50,10 +62,12 @@ pub record SideOrderly (net : Net) (side : Side) (a : ℕ) : Type 0 where
   pub just-empty : a ≡ emptyAt net side → setsOn net side a ≡ 0 ∷ []
   pub never-empty : (a ≡ emptyAt net side → ⊥) → listed 0 (setsOn net side a) ≡ false
   pub unused-zero : (i : ℕ) → getD (lengthsOf net side) a 0 ≤ i → i < sets → getD (masksOf net side) (sets * a + i) 0 ≡ 0
+  pub unused-uncounted : (i : ℕ) → getD (lengthsOf net side) a 0 ≤ i → i < sets → getD (countsOf net side) (sets * a + i) 0 ≡ 0
 
 pub record Orderly (net : Net) : Type 0 where
   pub masks-long : (side : Side) → length (masksOf net side) ≡ places
   pub lengths-long : (side : Side) → length (lengthsOf net side) ≡ activities
+  pub counts-long : (side : Side) → length (countsOf net side) ≡ places
   pub start-activity : net .start < activities
   pub end-activity : net .end < activities
   pub differ : net .start ≡ net .end → ⊥

@@ -12,8 +12,8 @@ use Rattle.net.specs.Limits.{sets}
 use Rattle.net.specs.Refusals.{Says, accepted, refused, disorderly, no-activity, misplaced-set, full-side}
 use Rattle.net.specs.Sentences.{Sentence, whole}
 use Rattle.net.specs.Chains.{unless}
-use Rattle.net.specs.Lists.{listed, insert, splice, AtMost}
-use Rattle.net.specs.Sides.{masksOf, lengthsOf, emptyAt, sideIn, OnSide}
+use Rattle.net.specs.Lists.{listed, placeIn, insertAt, insert, splice, AtMost}
+use Rattle.net.specs.Sides.{masksOf, lengthsOf, countsOf, emptyAt, sideIn, OnSide}
 use Rattle.net.specs.Orderly.{orderly}
 use Rattle.net.specs.Common.{notOrderly}
 use Rattle.net.specs.declared.Net.{Net}
@@ -78,14 +78,22 @@ grownMasks masks lengths a m = splice masks (sets * a) (insert m (sideIn masks l
 abbrev pub grownLengths : List ℕ → ℕ → List ℕ
 grownLengths lengths a = set lengths a (getD lengths a 0 + 1)
 
+-- and the counts, in which m has 0 and those behind it move along with their sets (02, (viii))
+abbrev pub grownCounts : List ℕ → List ℕ → List ℕ → ℕ → ℕ → List ℕ
+grownCounts masks lengths counts a m = splice counts (sets * a) (insertAt (placeIn m (sideIn masks lengths a)) 0 (sideIn counts lengths a))
+
 -- the net with other arrays for one kind of side
-abbrev pub withSides : Net → Side → List ℕ → List ℕ → Net
-withSides net Input masks lengths = record { start = net .start; end = net .end; inputs = masks; outputs = net .outputs; «input_len» = lengths; «output_len» = net .«output_len» }
-withSides net Output masks lengths = record { start = net .start; end = net .end; inputs = net .inputs; outputs = masks; «input_len» = net .«input_len»; «output_len» = lengths }
+abbrev pub withSides : Net → Side → List ℕ → List ℕ → List ℕ → Net
+withSides net Input masks lengths counts =
+    record { start = net .start; end = net .end; inputs = masks; outputs = net .outputs; «input_len» = lengths; «output_len» = net .«output_len»; «input_counts» = counts; «output_counts» = net .«output_counts» }
+withSides net Output masks lengths counts =
+    record { start = net .start; end = net .end; inputs = net .inputs; outputs = masks; «input_len» = net .«input_len»; «output_len» = lengths; «input_counts» = net .«input_counts»; «output_counts» = counts }
 
 -- the net with m added to activity a's side
 abbrev pub withSet : Net → Side → ℕ → ℕ → Net
-withSet net side a m = withSides net side (grownMasks (masksOf net side) (lengthsOf net side) a m) (grownLengths (lengthsOf net side) a)
+withSet net side a m =
+    withSides net side (grownMasks (masksOf net side) (lengthsOf net side) a m) (grownLengths (lengthsOf net side) a)
+    (grownCounts (masksOf net side) (lengthsOf net side) (countsOf net side) a m)
 
 -- the arrays after m was put on activity a's side
 unfoldable pub putMasks : List ℕ → List ℕ → ℕ → ℕ → ℕ → List ℕ
@@ -93,6 +101,9 @@ putMasks masks lengths empty a m = cond (grows (sideSays masks lengths empty a m
 
 unfoldable pub putLengths : List ℕ → List ℕ → ℕ → ℕ → ℕ → List ℕ
 putLengths masks lengths empty a m = cond (grows (sideSays masks lengths empty a m)) (grownLengths lengths a) lengths
+
+unfoldable pub putCounts : List ℕ → List ℕ → List ℕ → ℕ → ℕ → ℕ → List ℕ
+putCounts masks lengths counts empty a m = cond (grows (sideSays masks lengths empty a m)) (grownCounts masks lengths counts a m) counts
 
 -- the net that put has to return: with the set if it is new, else the very net given
 unfoldable pub putGives : Net → Side → ℕ → ℕ → Net

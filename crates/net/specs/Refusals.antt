@@ -50,6 +50,9 @@ text-too-long = 15
 abbrev pub name-unanswered : ℕ
 name-unanswered = 19
 
+abbrev pub count-too-high : ℕ
+count-too-high = 21
+
 -- what an answer says: whether the call was accepted; if not the refusal's number and the place returned with it, and if so
 -- the call's value
 pub record Says : Type 0 where

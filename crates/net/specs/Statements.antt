@@ -1,11 +1,11 @@
 -- What is proved of the definitions (01, "The net and its sets", "Learning and containment"): the order of refusals is that of their
 -- numbers, but for 19 (02, (iv)); the tests are the facts that the paper states, a fresh net holds two empty sets and nothing else,
--- and put adds one set to one side and nothing else. The proofs are in proofs/Theorems.antt.
+-- put adds one set to one side and nothing else, and containment passes over the counts. The proofs are in proofs/Theorems.antt.
 use Prim.Native.Nat.{ℕ, _+_, _<_}
 use mathlib.Core.Path.{_≡_}
 use mathlib.Core.Bool.{true}
 use mathlib.Core.Logic.{_↔_, _⊎_}
-use Rattle.net.specs.Sides.{emptyAt, OnSide, netSize}
+use Rattle.net.specs.Sides.{emptyAt, SameButCounts, countOf, OnSide, netSize}
 use Rattle.net.specs.Refusals.{on-no-walk, wrong-ends, name-unanswered}
 use Rattle.net.specs.Sentences.{orderOf, NoneHolds, AsListed}
 use Rattle.net.specs.Orderly.{Orderly, orderly}
@@ -32,12 +32,13 @@ OrderlyTestRight = (net : Net) → (orderly net ≡ true) ↔ Orderly net
 abbrev pub ContainedTestRight : Type 0
 ContainedTestRight = (net other : Net) → (contained net other ≡ true) ↔ Contained net other
 
--- a fresh net holds the empty set on the start's input side and on the end's output side, and nothing else
+-- a fresh net holds the empty set on the start's input side and on the end's output side, and nothing else; neither was used
 pub record Fresh (start end : ℕ) (net : Net) : Type 0 where
   pub start-is : net .start ≡ start
   pub end-is : net .end ≡ end
   pub is-orderly : Orderly net
   pub two-empty : (side : Side) (a m : ℕ) → OnSide net side a m ↔ ((a ≡ emptyAt net side) × (m ≡ 0))
+  pub unused : (side : Side) (a m : ℕ) → countOf net side a m ≡ 0
 
 -- fresh is accepted exactly if no refusal holds, and then returns such a net
 abbrev pub FreshSaid : Type 0
@@ -50,13 +51,15 @@ FreshHolds = (start end : ℕ) → freshSays start end ≡ freshMeans fresh.Made
 abbrev pub FreshRefused : Type 0
 FreshRefused = (start end number place : ℕ) → freshSays start end ≡ freshMeans (fresh.Refused number place) → freshGives start end ≡ freshNet 0 1
 
--- the second net is the first with m on activity a's side, and nothing else; the value says whether it was new
+-- the second net is the first with m on activity a's side, and nothing else; the value says whether it was new. No count changes:
+-- one that wasn't there has 0, before and after
 pub record Put (net : Net) (side : Side) (a m new : ℕ) (after : Net) : Type 0 where
   pub same-start : after .start ≡ net .start
   pub same-end : after .end ≡ net .end
   pub is-orderly : Orderly after
   pub on-sides : (t : Side) (b x : ℕ) → OnSide after t b x ↔ (OnSide net t b x ⊎ ((t ≡ side) × (b ≡ a) × (x ≡ m)))
   pub grown-by : netSize after ≡ netSize net + new
+  pub same-counts : (t : Side) (b x : ℕ) → countOf after t b x ≡ countOf net t b x
 
 -- put is accepted exactly if no refusal holds, and says whether the set was new
 abbrev pub PutSaid : Type 0
@@ -81,6 +84,12 @@ ContainedSaid =
     (net other : Net)
     → ((containedSays net other ≡ containedMeans answer.Yes) ↔ (Orderly net × Orderly other × Contained net other))
     × ((containedSays net other ≡ containedMeans answer.No) ↔ (Orderly net × Orderly other × (Contained net other → ⊥)))
+
+-- containment passes over the counts of orderly records (02, (viii))
+abbrev pub ContainedPassesOver : Type 0
+ContainedPassesOver =
+    (net net′ other other′ : Net) → Orderly net → Orderly net′ → Orderly other → Orderly other′ → SameButCounts net net′ → SameButCounts other other′
+    → containedSays net other ≡ containedSays net′ other′
 
 -- ---- the refusals: each call is refused exactly as its sentences are listed, and else accepted
 

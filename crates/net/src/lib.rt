@@ -24,7 +24,8 @@ pub const LISTS: usize = ACTIVITIES as usize;
 pub const PLACES: usize = (ACTIVITIES * SETS) as usize;
 
 // A net: for each activity a an input side and an output side. The sets of a's input side are the first input_len[a]
-// places of inputs from 16 * a on, and those of its output side likewise.
+// places of inputs from 16 * a on, and those of its output side likewise. At the same places of input_counts and
+// output_counts it is counted how often learned sequences have used each set.
 pub struct Net {
     pub start: u32,
     pub end: u32,
@@ -32,6 +33,8 @@ pub struct Net {
     pub outputs: [u32; PLACES],
     pub input_len: [u32; LISTS],
     pub output_len: [u32; LISTS],
+    pub input_counts: [u32; PLACES],
+    pub output_counts: [u32; PLACES],
 }
 
 // The two sides of an activity.

@@ -1,9 +1,9 @@
 // Lists of masks, lent as slices.
 
 ghost use mathlib.Core.Path.{_≡_};
-ghost use Prim.Native.Nat.{_-_, _<_};
+ghost use mathlib.Core.List.{_∷_};
 ghost use lib.ListN.{length, take};
-ghost use Rattle.net.specs.Lists.{listed, allListed, ascendsAbove, zeros, insert};
+ghost use Rattle.net.specs.Lists.{listed, allListed, ascendsAbove, zeros, placeIn};
 
 // Whether m is one of the list's elements.
 pub fn is_listed(list: &[u32], m: u32) -> bool
@@ -64,22 +64,30 @@ pub fn all_zero(list: &[u32]) -> bool
     true
 }
 
-// Inserts m into an ascending list, whose last place is free: from m's place on each element moves up by one. It is one
-// pass that carries the larger of the two along.
-pub fn insert(list: &mut [u32], m: u32)
-    requires { ⌜ 0 < length (now list) ⌝ }
-    ensures { λ _. ⌜ now (list .exit) ≡ insert m (take (length (now (list .entry)) - 1) (now (list .entry))) ⌝ }
+// The place of m in an ascending list: behind the elements below it.
+pub fn place_in(list: &[u32], m: u32) -> usize
+    ensures { λ r. ⌜ r ≡ placeIn m (now (list .entry)) ⌝ }
 {
-    let mut carry = m;
-    let last = list.len() - 1;
     let mut i: usize = 0;
-    while i < last {
-        let x = list[i];
-        if carry < x {
-            list[i] = carry;
-            carry = x;
+    while i < list.len() {
+        if list[i] >= m {
+            return i;
         }
         i += 1;
     }
-    list[last] = carry;
+    i
+}
+
+// Puts x first, and moves each element up by one, over the last.
+pub fn shift(list: &mut [u32], x: u32)
+    ensures { λ _. ⌜ now (list .exit) ≡ take (length (now (list .entry))) (x ∷ now (list .entry)) ⌝ }
+{
+    let mut carry = x;
+    let mut i: usize = 0;
+    while i < list.len() {
+        let y = list[i];
+        list[i] = carry;
+        carry = y;
+        i += 1;
+    }
 }

@@ -51,5 +51,7 @@ fn fresh_net(start: u32, end: u32) -> Net
         outputs: none,
         input_len: input_len,
         output_len: output_len,
+        input_counts: none,
+        output_counts: none,
     }
 }

@@ -8,7 +8,8 @@ ghost use mathlib.Core.Path.{_≡_};
 ghost use lib.ListN.{length};
 ghost use Rattle.obligations.specs.Limits.{activities};
 ghost use Rattle.net.specs.Limits.{sets, places};
-ghost use Rattle.net.specs.Orderly.{blockOk, sidesOk, endsOk, orderly};
+ghost use Rattle.net.specs.Inner.{Sides};
+ghost use Rattle.net.specs.Orderly.{blockOk, sidesOk, countsOk, endsOk, orderly};
 
 // Whether a net record is orderly.
 pub fn is_orderly(net: Net) -> bool
@@ -22,7 +23,13 @@ pub fn is_orderly(net: Net) -> bool
     if !sides_ok(&net.inputs, &net.input_len, start) {
         return false;
     }
-    sides_ok(&net.outputs, &net.output_len, end)
+    if !sides_ok(&net.outputs, &net.output_len, end) {
+        return false;
+    }
+    if !counts_ok(&net.input_counts, &net.input_len) {
+        return false;
+    }
+    counts_ok(&net.output_counts, &net.output_len)
 }
 
 // Whether start and end are activities and differ.
@@ -49,6 +56,23 @@ fn sides_ok<'a>(masks: &'a [u32], lengths: &'a [u32], empty: u32) -> bool
         let to = from + SETS as usize;
         let n = lengths[a as usize];
         if !block_ok(&masks[from..to], n, a == empty) {
+            return false;
+        }
+        a += 1;
+    }
+    true
+}
+
+// Whether the places past each side's sets have count 0, on every side of one kind, none of which has more than 16 sets.
+fn counts_ok<'a>(counts: &'a [u32], lengths: &'a [u32]) -> bool
+    requires { ⌜ Sides (now counts) (now lengths) ⌝ }
+    ensures { λ r. ⌜ r ≡ countsOk (now (counts .entry)) (now (lengths .entry)) ⌝ }
+{
+    let mut a: u32 = 0;
+    while a < ACTIVITIES {
+        let from = (SETS * a) as usize;
+        let used = from + lengths[a as usize] as usize;
+        if !lists::all_zero(&counts[used..from + SETS as usize]) {
             return false;
         }
         a += 1;

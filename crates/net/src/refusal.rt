@@ -31,3 +31,5 @@ pub const NUMBER_FORM: u32 = 14;
 pub const TEXT_TOO_LONG: u32 = 15;
 
 pub const NAME_UNANSWERED: u32 = 19;
+
+pub const COUNT_TOO_HIGH: u32 = 21;

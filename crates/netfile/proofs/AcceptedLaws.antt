@@ -14,13 +14,13 @@ use Rattle.text.specs.Lines.{lines}
 use Rattle.text.proofs.ByteLaws.{same-equal}
 use Rattle.net.specs.Refusals.{Says, accepted, outside-limits, line-form}
 use Rattle.net.specs.Chains.{unlessBy}
-use Rattle.net.specs.Sides.{OnSide}
+use Rattle.net.specs.Sides.{uncounted, OnSide}
 use Rattle.net.specs.Orderly.{endsOk, orderly}
 use Rattle.net.specs.Fresh.{freshNet}
 use Rattle.net.specs.declared.Net.{Net}
 use Rattle.net.specs.declared.Side.{Side}
 use Rattle.net.proofs.OrderlyLaws.{facts-ends}
-use Rattle.net.proofs.FreshLaws.{fresh-start, fresh-end, fresh-on-side, fresh-orderly, zero-one}
+use Rattle.net.proofs.FreshLaws.{fresh-start, fresh-end, fresh-on-side, fresh-orderly, zero-one, fresh-uncounted}
 use Rattle.net.proofs.PutLaws.{put-start, put-end, put-on-side}
 use Rattle.net.proofs.WithinLaws.{same-empty}
 use Rattle.netfile.specs.Limits.{netBytes}
@@ -31,7 +31,7 @@ use Rattle.netfile.specs.declared.line.EndLine.{EndLine}
 use Rattle.netfile.specs.declared.line.EndLine.the-variants.{Activity, Refused}
 use Rattle.netfile.specs.declared.line.RowLine.{RowLine}
 use Rattle.netfile.specs.declared.line.RowLine.the-variants as row-line
-use Rattle.netfile.proofs.PutRowLaws.{row-orderly}
+use Rattle.netfile.proofs.PutRowLaws.{row-orderly, row-uncounted}
 use Rattle.netfile.proofs.LineReadLaws.{end-is, start-exactly, end-exactly, RowSaid, row-form, row-number, set-row, row-said, row-exactly}
 
 -- the net of a refused reading
@@ -49,6 +49,19 @@ rows-orderly n net (l ∷ ls) o = go (rowSays net (readSetRow l) .ok) (rows-orde
         → orderly (cond t (readRows (n + 1) (rowGives net (readSetRow l)) ls) (refusedAt (rowSays net (readSetRow l) .refusal) n) .net) ≡ true
     go true h = h
     go false h = refused-orderly
+
+-- rows leave the counts 0
+pub rows-uncounted : (n : ℕ) (net : Net) (ls : List (List ℕ)) → orderly net ≡ true → uncounted net ≡ net → uncounted (readRows n net ls .net) ≡ readRows n net ls .net
+unfolding readRows
+rows-uncounted n net [] o e = e
+rows-uncounted n net (l ∷ ls) o e =
+    go (rowSays net (readSetRow l) .ok) (rows-uncounted (n + 1) (rowGives net (readSetRow l)) ls (row-orderly net (readSetRow l) o) (row-uncounted net (readSetRow l) o e))
+  where
+    go : (t : Bool) → uncounted (readRows (n + 1) (rowGives net (readSetRow l)) ls .net) ≡ readRows (n + 1) (rowGives net (readSetRow l)) ls .net
+        → uncounted (cond t (readRows (n + 1) (rowGives net (readSetRow l)) ls) (refusedAt (rowSays net (readSetRow l) .refusal) n) .net)
+        ≡ cond t (readRows (n + 1) (rowGives net (readSetRow l)) ls) (refusedAt (rowSays net (readSetRow l) .refusal) n) .net
+    go true h = h
+    go false h = fresh-uncounted 0 1
 
 -- what is known where rows were accepted: of the first row, and that the others were accepted from the net with it
 record Taken (n : ℕ) (net : Net) (l : List ℕ) (ls : List (List ℕ)) : Type 0 where
@@ -249,6 +262,14 @@ pub net-orderly : (text : List ℕ) → orderly (readNet text .net) ≡ true
 net-orderly text = elim (true-or-false (readNet text .says .ok)) [
   | inl h ↦ let a = accepted-parts text h in rw (a .is-rows) (rows-orderly 4 (freshNet (a .start) (a .end)) (a .rows) (fresh-orderly (a .start) (a .end) (a .ends)))
   | inr h ↦ rw (read-refused text h) refused-orderly
+]
+
+pub net-uncounted : (text : List ℕ) → uncounted (readNet text .net) ≡ readNet text .net
+net-uncounted text = elim (true-or-false (readNet text .says .ok)) [
+  | inl h ↦
+      let a = accepted-parts text h in
+      rw (a .is-rows) (rows-uncounted 4 (freshNet (a .start) (a .end)) (a .rows) (fresh-orderly (a .start) (a .end) (a .ends)) (fresh-uncounted (a .start) (a .end)))
+  | inr h ↦ rw (read-refused text h) (fresh-uncounted 0 1)
 ]
 
 pub ok-accepted : (text : List ℕ) → readNet text .says .ok ≡ true → readNet text .says ≡ accepted 0

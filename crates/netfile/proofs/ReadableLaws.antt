@@ -35,7 +35,7 @@ use Rattle.netfile.specs.Refusals.{IsEnd, IsSetRow, ActivityWrong, RowFo
 use Rattle.netfile.specs.Statements.{HasRow, Readable, SameRows}
 use Rattle.netfile.proofs.FileLaws.{read-long}
 use Rattle.netfile.proofs.LineReadLaws.{start-exactly, end-exactly, start-same, end-same, end-fine, row-fine}
-use Rattle.netfile.proofs.AcceptedLaws.{accepted-parts, rows-are-rows, read-refused, net-orderly, ok-accepted, accepted-said}
+use Rattle.netfile.proofs.AcceptedLaws.{accepted-parts, rows-are-rows, read-refused, net-orderly, net-uncounted, ok-accepted, accepted-said}
 use Rattle.netfile.proofs.ListedLaws.{no-row-missing, net-told, net-listed}
 
 -- ---- what is accepted is readable
@@ -209,7 +209,9 @@ same-net text other s = elim (true-or-false (readNet text .says .ok)) [
   | inl h ↦
       let p = ok-accepted text h in
       let q = same-accepted text other s .0 p in
-      contained-same (readNet text .net) (readNet other .net) (net-orderly text) (net-orderly other) (same-contained text other s p q) (same-contained other text (same-swapped text other s) q p)
+      sym (net-uncounted text)
+      ∙ contained-same (readNet text .net) (readNet other .net) (net-orderly text) (net-orderly other) (same-contained text other s p q) (same-contained other text (same-swapped text other s) q p)
+      ∙ net-uncounted other
   | inr h ↦
       let k : readNet other .says .ok ≡ false = ⊎-elim (λ t. absurd (false-not-true h (ap (λ (u : Says). u .ok) (same-accepted text other s .1 (ok-accepted other t))))) (λ t. t) (true-or-false (readNet other .says .ok)) in
       read-refused text h ∙ sym (read-refused other k)

@@ -1,7 +1,7 @@
 -- The statements of specs/Statements.antt. The round trip: every row that was written is of a set of the net, so each put
 -- into a net that the net contains is accepted and leaves such a net; after the last row it holds all sets of the net, and
 -- orderly nets that contain each other are equal. What is read is the laws' to say. Assumes nothing.
-use Prim.Native.Nat.{ℕ, _+_, _<_}
+use Prim.Native.Nat.{ℕ, zero, suc, _+_, _<_}
 use native.Mathlib.Decide.{ℕ-discrete as decEq}
 use native.Mathlib.Omega.{arith}
 use mathlib.Core.Path.{_≡_, refl, sym, ap, _∙_}
@@ -16,28 +16,30 @@ use Rattle.obligations.specs.Limits.{activities, masks}
 use Rattle.obligations.proofs.BoolLaws.{false-not-true}
 use Rattle.net.specs.Refusals.{Says, accepted, refused, disorderly, text-too-long}
 use Rattle.net.specs.Chains.{unless}
-use Rattle.net.specs.Sides.{masksOf, lengthsOf, emptyAt, OnSide}
+use Rattle.net.specs.Sides.{masksOf, lengthsOf, emptyAt, uncounted, OnSide}
 use Rattle.net.specs.Orderly.{endsOk, orderly}
 use Rattle.net.specs.Fresh.{freshNet}
 use Rattle.net.specs.Contained.{Contained}
 use Rattle.net.specs.declared.Net.{Net}
 use Rattle.net.specs.declared.Side.{Side}
+use Rattle.net.specs.declared.Side.the-variants.{Input, Output}
 use Rattle.net.proofs.ListLaws.{one-listed}
 use Rattle.net.proofs.SideLaws.{side-just-empty, set-is-mask}
 use Rattle.net.proofs.OrderlyLaws.{ends-facts, orderly-ends, orderly-sides, orderly-side, orderly-facts, facts-orderly}
-use Rattle.net.proofs.FreshLaws.{fresh-start, fresh-end, fresh-on-side, fresh-orderly}
+use Rattle.net.proofs.FreshLaws.{fresh-start, fresh-end, fresh-on-side, fresh-orderly, fresh-uncounted}
 use Rattle.net.proofs.PutLaws.{put-says-side}
 use Rattle.net.proofs.WithinLaws.{contained-same, put-accepts-within, put-keeps-within, same-empty}
+use Rattle.net.proofs.UncountedLaws.{uncounted-orderly, passes-over}
 use Rattle.net.proofs.SentenceLaws.{Told, told-end, told-value, whole-link, chain-listed, accepted-not-refused}
 use Rattle.net.proofs.CommonLaws.{orderly-link}
-use Rattle.netfile.specs.NetFile.{readSetRow, rowSays, rowGives, FileReading, readAs, readRows, fromEnd, fromStart, fromHeader, readNet, activityLines, headLines, netLines, netText, writeRefusals, writeSays, writeGives}
-use Rattle.netfile.specs.Statements.{NetListed, WriteListed, WriteSaid, RefusedFresh, LinesRead, HasRow, NetAccepted, ReadSaid, SameRowsSameNet, ReadOrderly, RowSaysSide, RoundTrip, WrittenRead, ReadAgain}
+use Rattle.netfile.specs.NetFile.{readSetRow, rowSays, rowGives, FileReading, readAs, readRows, fromEnd, fromStart, fromHeader, readNet, sideLines, activityLines, headLines, netLines, netText, writeRefusals, writeSays, writeGives}
+use Rattle.netfile.specs.Statements.{NetListed, WriteListed, WriteSaid, RefusedFresh, LinesRead, HasRow, NetAccepted, ReadSaid, SameRowsSameNet, ReadOrderly, ReadUncounted, RowSaysSide, RoundTrip, RoundTripSame, WrittenRead, WritePassesOver, ReadAgain}
 use Rattle.netfile.proofs.PutRowLaws.{row-orderly}
 use Rattle.netfile.proofs.FileLaws.{read-short}
 use Rattle.netfile.proofs.TextLaws.{net-short}
 use Rattle.netfile.proofs.RowTextLaws.{start-back, end-back, row-back, RowOf, net-row-of, net-row, text-lines}
 use Rattle.netfile.proofs.LineReadLaws.{start-exactly, end-exactly, row-exactly}
-use Rattle.netfile.proofs.AcceptedLaws.{rows-orderly, rows-said, rows-ends, rows-hold, read-refused, net-orderly, accepted-said}
+use Rattle.netfile.proofs.AcceptedLaws.{rows-orderly, rows-uncounted, rows-said, rows-ends, rows-hold, read-refused, net-orderly, net-uncounted, accepted-said}
 use Rattle.netfile.proofs.ListedLaws.{net-listed}
 use Rattle.netfile.proofs.ReadableLaws.{accepted-readable, readable-accepted, same-accepted, same-net}
 
@@ -100,12 +102,13 @@ module _ (whole : Net) (q : orderly whole ≡ true) (w : MaskSets whole) where
     | no d ↦ inr (record { line = _; there = net-row whole side a m h i (omega arith); is-row = record { is-text = refl; is-activity = h; not-empty = omega arith; is-mask = w side a m i } })
   ]
 
-  after-net : after .net ≡ whole
+  after-net : after .net ≡ uncounted whole
   unfolding after fresh
   after-net =
       let f = accepted-after in
       let g = rows-ends 4 fresh (activityLines whole activities 0) (f .0) in
-      contained-same (after .net) whole (rows-orderly 4 fresh (activityLines whole activities 0) (fresh-orderly (whole .start) (whole .end) ends)) q (f .1)
+      sym (rows-uncounted 4 fresh (activityLines whole activities 0) (fresh-orderly (whole .start) (whole .end) ends) (fresh-uncounted (whole .start) (whole .end)))
+      ∙ contained-same (after .net) whole (rows-orderly 4 fresh (activityLines whole activities 0) (fresh-orderly (whole .start) (whole .end) ends)) q (f .1)
       (record {
         same-start = sym (g .0 ∙ fresh-start (whole .start) (whole .end));
         same-end = sym (g .1 ∙ fresh-end (whole .start) (whole .end));
@@ -128,12 +131,15 @@ module _ (whole : Net) (q : orderly whole ≡ true) (w : MaskSets whole) where
 reading-ext : (r : FileReading) (s : Says) (net : Net) → r .says ≡ s → r .net ≡ net → r ≡ record { says = s; net = net }
 reading-ext r s net p q = rw (← p, ← q)
 
-sets-back : (net : Net) → orderly net ≡ true → MaskSets net → readNet (netText net) ≡ readAs net
+sets-back : (net : Net) → orderly net ≡ true → MaskSets net → readNet (netText net) ≡ readAs (uncounted net)
 unfolding after
-sets-back net o w = text-after net o w ∙ reading-ext (after net o w) (accepted 0) net (rows-said 4 (fresh net o w) (activityLines net activities 0) (accepted-after net o w .0)) (after-net net o w)
+sets-back net o w = text-after net o w ∙ reading-ext (after net o w) (accepted 0) (uncounted net) (rows-said 4 (fresh net o w) (activityLines net activities 0) (accepted-after net o w .0)) (after-net net o w)
 
 pub round-trip : RoundTrip
 round-trip net o w = sets-back net (facts-orderly net o) (set-is-mask net w)
+
+pub round-trip-same : RoundTripSame
+round-trip-same net o w e = round-trip net o w ∙ ap readAs e
 
 -- ---- the two calls one after the other
 
@@ -167,6 +173,23 @@ write-listed net room = chain-listed (writeRefusals net room) refl (length (netT
 pub write-said : WriteSaid
 write-said net room n = told-value (writeRefusals net room) (length (netText net)) n (write-told net room)
 
+-- what the writer reads of a net are its ends and its sides
+lines-uncounted : (net : Net) (n a : ℕ) → activityLines (uncounted net) n a ≡ activityLines net n a
+unfolding activityLines
+lines-uncounted net zero a = refl
+lines-uncounted net (suc n) a = ap (λ (ls : List (List ℕ)). sideLines net Input a ++ (sideLines net Output a ++ ls)) (lines-uncounted net n (a + 1))
+
+text-uncounted : (net : Net) → netText (uncounted net) ≡ netText net
+unfolding netText netLines
+text-uncounted net = rw (lines-uncounted net activities 0)
+
+pub write-passes-over : WritePassesOver
+unfolding writeSays writeGives
+write-passes-over net other buf o q e = (
+  passes-over (λ n. writeSays n (length buf)) (λ n h. rw (uncounted-orderly n h, h, text-uncounted n)) net other o q e,
+  passes-over (λ n. writeGives n buf) (λ n h. rw (uncounted-orderly n h, h, text-uncounted n)) net other o q e,
+)
+
 -- ---- whatever is read
 
 pub net-as-listed : NetListed
@@ -193,6 +216,9 @@ read-orderly = net-orderly
 pub whatever-orderly : ReadOrderly
 whatever-orderly text = orderly-facts (readNet text .net) (net-orderly text)
 
+pub read-uncounted : ReadUncounted
+read-uncounted = net-uncounted
+
 pub read-said : ReadSaid
 read-said = accepted-said
 
@@ -200,4 +226,4 @@ read-masks : (text : List ℕ) → readNet text .says ≡ accepted 0 → MaskSet
 read-masks text h side a m i = ⊎-elim (λ e. omega arith) (λ r. r .is-row .is-mask) (read-said text h .sets-read side a m .0 i)
 
 pub read-again : ReadAgain
-read-again text h = sets-back (readNet text .net) (read-orderly text) (read-masks text h) ∙ sym (reading-ext (readNet text) (accepted 0) (readNet text .net) h refl)
+read-again text h = sets-back (readNet text .net) (read-orderly text) (read-masks text h) ∙ ap readAs (net-uncounted text) ∙ sym (reading-ext (readNet text) (accepted 0) (readNet text .net) h refl)

@@ -9,7 +9,7 @@ use Rattle.text.specs.Lines.{lines}
 use Rattle.net.specs.Limits.{sets}
 use Rattle.net.specs.Sentences.{NoneHolds, AsListed, AsListedByLine}
 use Rattle.net.specs.Lists.{AtMost}
-use Rattle.net.specs.Sides.{masksOf, lengthsOf, emptyAt, OnSide, Masks}
+use Rattle.net.specs.Sides.{masksOf, lengthsOf, emptyAt, uncounted, SameButCounts, OnSide, Masks}
 use Rattle.net.specs.Orderly.{Orderly}
 use Rattle.net.specs.Fresh.{freshNet}
 use Rattle.net.specs.Put.{sideSays}
@@ -108,6 +108,10 @@ SameRowsSameNet =
 abbrev pub ReadOrderly : Type 0
 ReadOrderly = (text : List ℕ) → Orderly (readNet text .net)
 
+-- and has counts 0 (02, (viii))
+abbrev pub ReadUncounted : Type 0
+ReadUncounted = (text : List ℕ) → uncounted (readNet text .net) ≡ readNet text .net
+
 -- of a row that is read only 5 and 12 are left to say, which are its side's to say
 abbrev pub RowSaysSide : Type 0
 RowSaysSide =
@@ -116,15 +120,26 @@ RowSaysSide =
 
 -- ---- what is written is read again
 
--- what the writer writes of an orderly net is read as that net, word for word
+-- what the writer writes of an orderly net is read as that net with counts 0, word for word (02, (viii)): as the net itself, if
+-- its counts are 0
 abbrev pub RoundTrip : Type 0
-RoundTrip = (net : Net) → Orderly net → Masks net → readNet (netText net) ≡ readAs net
+RoundTrip = (net : Net) → Orderly net → Masks net → readNet (netText net) ≡ readAs (uncounted net)
 
--- the two calls one after the other: the bytes of the buffer up to the length that the writer answered are read as the net written
+abbrev pub RoundTripSame : Type 0
+RoundTripSame = (net : Net) → Orderly net → Masks net → uncounted net ≡ net → readNet (netText net) ≡ readAs net
+
+-- the two calls one after the other: the bytes of the buffer up to the length that the writer answered are read as the net written,
+-- with counts 0
 abbrev pub WrittenRead : Type 0
 WrittenRead =
     (net : Net) (buf : List ℕ) (n : ℕ) → Masks net → writeSays net (length buf) ≡ writeMeans (write-answer.Written n)
-    → readNet (take n (writeGives net buf)) ≡ readAs net
+    → readNet (take n (writeGives net buf)) ≡ readAs (uncounted net)
+
+-- the writer passes over the counts of orderly records
+abbrev pub WritePassesOver : Type 0
+WritePassesOver =
+    (net other : Net) (buf : List ℕ) → Orderly net → Orderly other → SameButCounts net other
+    → (writeSays net (length buf) ≡ writeSays other (length buf)) × (writeGives net buf ≡ writeGives other buf)
 
 -- what was read and accepted, written and read again, is the same
 abbrev pub ReadAgain : Type 0

@@ -10,9 +10,9 @@ use crate::line::row_line;
 use net::LISTS;
 use net::Net;
 use net::PLACES;
-use net::PutAnswer;
 use net::Side;
 use net::fresh;
+use net::putting::Placed;
 use net::putting::put_side;
 use net::refusal::BAD_ENDS;
 use net::refusal::LINE_FORM;
@@ -26,8 +26,8 @@ ghost use Prim.Native.Nat.{_≤_, _<_};
 ghost use lib.ListN.{length, drop};
 ghost use Rattle.obligations.specs.Limits.{activities};
 ghost use Rattle.text.specs.Lines.{lines};
-ghost use Rattle.net.specs.Sides.{netOf};
-ghost use Rattle.net.specs.Put.{putMeans};
+ghost use Rattle.net.specs.Sides.{netOf, uncounted};
+ghost use Rattle.net.specs.Inner.{placedMeans};
 ghost use Rattle.net.specs.Orderly.{orderly};
 ghost use Rattle.netfile.specs.Limits.{netBytes};
 ghost use Rattle.netfile.specs.NetFile.{Reads, refusedAt, readRows, fromEnd, fromStart, readNet};
@@ -79,9 +79,10 @@ fn read_end(text: &[u8], i: usize, start: u32) -> NetReading
     }
 }
 
-// Reads the rows, which start at line 4 and at index `at`, into an orderly net. The net's arrays are changed in place.
+// Reads the rows, which start at line 4 and at index `at`, into an orderly net without counts. The net's arrays are changed in
+// place, but for the counts, which stay 0.
 fn read_rows(text: &[u8], at: usize, mut net: Net) -> NetReading
-    requires { ⌜ (at ≤ length (now text)) × (length (now text) ≤ netBytes) × (orderly net ≡ true) ⌝ }
+    requires { ⌜ (at ≤ length (now text)) × (length (now text) ≤ netBytes) × (orderly net ≡ true) × (uncounted net ≡ net) ⌝ }
     ensures { λ r. ⌜ Reads (readRows 4 net (lines (drop at (now (text .entry))))) r ⌝ }
 {
     let mut inputs = net.inputs;
@@ -124,7 +125,7 @@ enum RowPut {
     Refused(u32),
 }
 
-// Puts a row's set into the arrays of an orderly net.
+// Puts a row's set into the arrays of an orderly net without counts.
 fn put_row(
     start: u32,
     end: u32,
@@ -147,14 +148,14 @@ fn put_row(
     }
 }
 
-// What put's answer says of a row.
-fn row_put(answer: PutAnswer) -> RowPut
-    ensures { λ r. ⌜ r ≡ rowPut (putMeans answer) ⌝ }
+// What the put says of a row.
+fn row_put(placed: Placed) -> RowPut
+    ensures { λ r. ⌜ r ≡ rowPut (placedMeans placed) ⌝ }
 {
-    match answer {
-        PutAnswer::New => RowPut::Put,
-        PutAnswer::Present => RowPut::Put,
-        PutAnswer::Refused { number, place: _ } => RowPut::Refused(number),
+    match placed {
+        Placed::New(_) => RowPut::Put,
+        Placed::Present(_) => RowPut::Put,
+        Placed::Refused { number, place: _ } => RowPut::Refused(number),
     }
 }
 

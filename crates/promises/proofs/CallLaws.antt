@@ -5,23 +5,25 @@ use mathlib.Core.Path.{_≡_, refl, sym, ap, subst, _∙_}
 use mathlib.Core.List.{List}
 use mathlib.Core.Logic.{_↔_}
 use native.Mathlib.Omega.{arith}
+use Rattle.obligations.specs.State.{total}
 use Rattle.obligations.specs.Sequence.{Binding, bindings, words}
 use Rattle.obligations.proofs.SequenceLaws.{bindings-words, held-at}
 use Rattle.net.specs.Refusals.{Says, accepted, refused}
 use Rattle.net.specs.Sentences.{NoneHolds, AsListed}
-use Rattle.net.specs.Sides.{netSize}
+use Rattle.net.specs.Sides.{countsOn, netSize}
 use Rattle.net.specs.Valid.{Valid}
 use Rattle.net.specs.declared.Net.{Net}
+use Rattle.net.specs.declared.Side.{Side}
 use Rattle.net.specs.declared.Side.the-variants.{Input, Output}
 use Rattle.net.proofs.SentenceLaws.{Told, told-accepted}
-use Rattle.sequences.specs.Gain.{Gains}
+use Rattle.sequences.specs.Gain.{occurrences, Gains}
 use Rattle.sequences.specs.Learn.{newSets, learnSays, learnGives}
 use Rattle.sequences.specs.Follow.{followed}
 use Rattle.sequences.specs.Statements.{Words}
 use Rattle.sequences.proofs.FollowLaws.{words-followed}
 use Rattle.sequences.proofs.FollowLearnLaws.{follow-is-learn}
 use Rattle.sequences.proofs.RefusalLaws.{learn-told, learn-listed, follow-told, follow-listed}
-use Rattle.sequences.proofs.Theorems.{learn-accepts, learn-holds, learn-valid, refused-same}
+use Rattle.sequences.proofs.Theorems.{learn-accepts, learn-holds, learn-adds-up, learn-valid, refused-same}
 use Rattle.promises.specs.Calls.{Call, learn, follow, wordsOf, sequenceOf, refusals, says, gives}
 use Rattle.promises.proofs.ValidWalkLaws.{SetsAreMasks}
 
@@ -71,6 +73,12 @@ module _ (net : Net) (call : Call) (new : ℕ) (e : says net call ≡ accepted n
   -- by as many sets as are said to be new
   pub call-grows : netSize (gives net call) ≡ netSize net + new
   call-grows = ap netSize (gives-learned net call) ∙ learn-accepts net (learnedWords call) new .0 learned-says .1
+
+  -- the counts of a side add up to so many more as its activity occurs
+  pub call-adds-up : (side : Side) (a : ℕ) → total (countsOn (gives net call) side a) ≡ total (countsOn net side a) + occurrences (sequenceOf call) a
+  call-adds-up side a =
+      subst (λ (n : Net). total (countsOn n side a) ≡ total (countsOn net side a) + occurrences (sequenceOf call) a) (sym (gives-learned net call))
+      (subst (λ (s : List Binding). total (countsOn (learnGives net (learnedWords call)) side a) ≡ total (countsOn net side a) + occurrences s a) (bindings-learned call) (learn-adds-up net (learnedWords call) new learned-says side a))
 
   pub call-valid : Valid (gives net call) (sequenceOf call)
   call-valid =

@@ -1,23 +1,26 @@
 -- The net after a list of calls: it holds exactly what it held and the sets of the sequences accepted, each of which is
--- well-formed for its start and end. One call after the other. Assumes nothing.
-use Prim.Native.Nat.{ℕ}
+-- well-formed for its start and end, and has counted their uses. One call after the other. Assumes nothing.
+use Prim.Native.Nat.{ℕ, _+_}
 use mathlib.Core.Path.{_≡_, refl, sym, ap, subst, _∙_}
 use mathlib.Core.Bool.{Bool, true, false, cond}
 use mathlib.Core.List.{List, [], _∷_, List·Memᴰ, List·Memᴰ·head, List·Memᴰ·tail, List·Memᴰ·not-nil, List·Memᴰ·cases-cons}
 use mathlib.Core.Logic.{_↔_, _⊎_, inl, inr, ⊎-elim}
+use native.Mathlib.Omega.{arith}
+use Rattle.obligations.specs.State.{total}
 use Rattle.obligations.specs.Sequence.{Binding, WellFormed}
 use Rattle.net.specs.Refusals.{Says, accepted, refused}
-use Rattle.net.specs.Sides.{OnSide}
+use Rattle.net.specs.Sides.{countsOn, countOf, OnSide}
 use Rattle.net.specs.Orderly.{Orderly}
 use Rattle.net.specs.Valid.{Valid}
 use Rattle.net.specs.declared.Net.{Net}
 use Rattle.net.specs.declared.Side.{Side}
 use Rattle.net.specs.declared.Side.the-variants.{Input, Output}
-use Rattle.sequences.specs.Gain.{SetOf, Gains}
+use Rattle.sequences.specs.Gain.{SetOf, occurrences, Gains}
 use Rattle.sequences.specs.Learn.{newSets}
 use Rattle.promises.specs.Calls.{Call, sequenceOf, says, gives, grown, AllWords}
+use Rattle.promises.specs.Promise.{usesIn, occurrencesIn}
 use Rattle.promises.proofs.ValidWalkLaws.{SetsAreMasks}
-use Rattle.promises.proofs.CallLaws.{call-listed, call-accepted, call-gains, call-valid, call-stays, call-masks}
+use Rattle.promises.proofs.CallLaws.{call-listed, call-accepted, call-gains, call-adds-up, call-valid, call-stays, call-masks}
 
 -- m is a set that some of the sequences has for activity a's side
 pub record SetOfSome (side : Side) (ss : List (List Binding)) (a m : ℕ) : Type 0 where
@@ -31,14 +34,19 @@ pub record Grown (net after : Net) (ss : List (List Binding)) : Type 0 where
   pub same-end : after .end ≡ net .end
   pub is-orderly : Orderly after
   pub on-sides : (side : Side) (a m : ℕ) → OnSide after side a m ↔ (OnSide net side a m ⊎ SetOfSome side ss a m)
+  pub counted : (side : Side) (a m : ℕ) → countOf after side a m ≡ countOf net side a m + usesIn side ss a m
+  pub adds-up : (side : Side) (a : ℕ) → total (countsOn after side a) ≡ total (countsOn net side a) + occurrencesIn ss a
   pub each-formed : (s : List Binding) → List·Memᴰ s ss → WellFormed (net .start) (net .end) s
 
 grown-none : (net : Net) → Orderly net → Grown net net []
+unfolding usesIn occurrencesIn
 grown-none net o = record {
   same-start = refl;
   same-end = refl;
   is-orderly = o;
   on-sides = λ side a m. (inl, (λ w. ⊎-elim (λ i. i) (λ f. absurd (List·Memᴰ·not-nil (f .among))) w));
+  counted = λ side a m. omega arith;
+  adds-up = λ side a. omega arith;
   each-formed = λ s m. absurd (List·Memᴰ·not-nil m);
 }
 
@@ -47,8 +55,10 @@ formed-as : {s : List Binding} (start end start′ end′ : ℕ) → start ≡ s
 formed-as {s} start end start′ end′ e f w = subst (λ (a : ℕ). WellFormed a end′ s) e (subst (λ (b : ℕ). WellFormed start b s) f w)
 
 -- one sequence more, before the others
-grown-more : (net next after : Net) (s : List Binding) (ss : List (List Binding)) → Valid next s → Gains net s next → Grown next after ss → Grown net after (s ∷ ss)
-grown-more net next after s ss v g r = record {
+grown-more : (net next after : Net) (s : List Binding) (ss : List (List Binding)) → Valid next s → Gains net s next
+    → ((side : Side) (a : ℕ) → total (countsOn next side a) ≡ total (countsOn net side a) + occurrences s a) → Grown next after ss → Grown net after (s ∷ ss)
+unfolding usesIn occurrencesIn
+grown-more net next after s ss v g u r = record {
   same-start = r .same-start ∙ g .same-start;
   same-end = r .same-end ∙ g .same-end;
   is-orderly = r .is-orderly;
@@ -56,6 +66,8 @@ grown-more net next after s ss v g r = record {
     (λ i. ⊎-elim (λ j. ⊎-elim inl (λ f. inr (record { sequence = s; among = List·Memᴰ·head refl; set-of = f })) (g .on-sides side a m .0 j)) (λ f. inr (record { sequence = f .sequence; among = List·Memᴰ·tail (f .among); set-of = f .set-of })) (r .on-sides side a m .0 i)),
     (λ w. r .on-sides side a m .1 (⊎-elim (λ i. inl (g .on-sides side a m .1 (inl i))) (λ f. back side a m f (List·Memᴰ·cases-cons (f .among))) w)),
   );
+  counted = λ side a m. omega (arith, r .counted side a m, g .counted side a m);
+  adds-up = λ side a. omega (arith, r .adds-up side a, u side a);
   each-formed = λ t m. ⊎-elim (λ e. rw e (as-net s (v .well-formed))) (λ k. as-net t (r .each-formed t k)) (List·Memᴰ·cases-cons m);
 }
   where
@@ -100,7 +112,7 @@ grown-list net (call ∷ calls) o =
     (λ w.
     let g = call-gains net call (w .0) (w .1) in
     rw (learned-more net call calls (w .0) (w .1))
-    (grown-more net (gives net call) (grown (gives net call) calls) (sequenceOf call) (learned (gives net call) calls) (call-valid net call (w .0) (w .1)) g (grown-list (gives net call) calls (g .is-orderly))))
+    (grown-more net (gives net call) (grown (gives net call) calls) (sequenceOf call) (learned (gives net call) calls) (call-valid net call (w .0) (w .1)) g (call-adds-up net call (w .0) (w .1)) (grown-list (gives net call) calls (g .is-orderly))))
     (λ w. rw (learned-same net call calls (w .0) (w .1) (w .2), call-stays net call (w .0) (w .1) (w .2)) (grown-list net calls o))
     (accepted-or-refused net call)
 

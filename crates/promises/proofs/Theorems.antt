@@ -15,7 +15,7 @@ use Rattle.net.specs.Contained.{containedSays}
 use Rattle.net.specs.Valid.{Valid}
 use Rattle.net.specs.declared.Net.{Net}
 use Rattle.net.proofs.OrderlyLaws.{orderly-facts}
-use Rattle.net.proofs.FreshLaws.{fresh-orderly}
+use Rattle.net.proofs.FreshLaws.{fresh-orderly, fresh-unused, fresh-sum}
 use Rattle.net.proofs.SentenceLaws.{accepted-not-refused}
 use Rattle.net.proofs.Theorems.{fresh-made, contained-said}
 use Rattle.walks.specs.Check.{checkSays}
@@ -96,6 +96,8 @@ module _ (start end : ℕ) (h : endsOk start end ≡ true) (calls : List Call) w
         contained-exactly = contained-valid;
         found-never-none = λ other e. found-not-none net other (grew .is-orderly) (contained-said net other .0 .0 e .2);
         none-exactly = none-exactly;
+        counted = λ side a m. omega (arith, grew .counted side a m, fresh-unused start end h side a m);
+        counts-add-up = λ side a. omega (arith, grew .adds-up side a, fresh-sum start end h side a);
       }
 
 pub promised : Promised

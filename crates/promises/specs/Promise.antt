@@ -1,23 +1,25 @@
--- Demand 3 (01, "Learning and containment"): one promise of every list of learning calls. The proof is in proofs/Theorems.antt.
+-- Demand 3 (01, "Learning and containment"; 02, (viii)): one promise of every list of learning calls. The proof is in proofs/Theorems.antt.
 use Prim.Native.Nat.{ℕ, _+_}
 use mathlib.Core.Path.{_≡_}
 use mathlib.Core.List.{List, [], _∷_, _++_, List·Memᴰ}
 use mathlib.Core.Logic.{_↔_}
+use Rattle.obligations.specs.State.{total}
 use Rattle.obligations.specs.Sequence.{Binding}
 use Rattle.net.specs.Refusals.{Says}
 use Rattle.net.specs.Sentences.{NoneHolds, IsGiven, AsListed}
-use Rattle.net.specs.Sides.{netSize}
+use Rattle.net.specs.Sides.{countsOn, countOf, netSize}
 use Rattle.net.specs.Fresh.{freshMeans, freshSays, freshGives}
 use Rattle.net.specs.Contained.{containedMeans, containedSays}
 use Rattle.net.specs.Valid.{Valid}
 use Rattle.net.specs.declared.Net.{Net}
+use Rattle.net.specs.declared.Side.{Side}
 use Rattle.net.specs.declared.FreshAnswer.the-variants.{Made}
 use Rattle.net.specs.declared.ContainedAnswer.the-variants.{Yes}
 use Rattle.walks.specs.Arcs.{arcs}
 use Rattle.walks.specs.Walk.{Passes}
 use Rattle.walks.specs.Check.{checkMeans, checkSays}
 use Rattle.walks.specs.declared.CheckAnswer.the-variants.{Passed}
-use Rattle.sequences.specs.Gain.{Gains}
+use Rattle.sequences.specs.Gain.{uses, occurrences, Gains}
 use Rattle.sequences.specs.Learn.{learnMeans}
 use Rattle.sequences.specs.declared.LearnAnswer.the-variants.{Learned, Refused}
 use Rattle.search.specs.Statements.{NoChoice}
@@ -25,8 +27,8 @@ use Rattle.promises.specs.Calls.{Call, sequenceOf, refusals, says, gives
 use Rattle.promises.specs.Replays.{SaysFound, SaysNone, ReplayNotRefused, EndsWithin}
 
 -- one call, given the net so far: it is refused exactly as the papers list it, and else accepted, with the growth of the net's own
--- lists as the number of new sets; an accepted call returns the net with exactly its sequence's sets more, and a refused one the
--- net so far
+-- lists as the number of new sets; an accepted call returns the net with exactly its sequence's sets more and their uses counted,
+-- and a refused one the net so far
 pub record Called (net : Net) (call : Call) : Type 0 where
   pub as-listed : AsListed (λ n p. learnMeans (Refused n p)) (refusals net call) (says net call)
   pub accepted-exactly : (new : ℕ) → (says net call ≡ learnMeans (Learned new)) ↔ (NoneHolds (refusals net call) × (netSize (gives net call) ≡ netSize net + new))
@@ -42,6 +44,15 @@ pub data Runs : Net → List Call → List Says → List (List Binding) → Net 
   refuses : {net last : Net} {call : Call} {calls : List Call} {number place : ℕ} {said : List Says} {ss : List (List Binding)}
       → IsGiven (refusals net call) number place
       → Runs net calls said ss last → Runs net (call ∷ calls) (learnMeans (Refused number place) ∷ said) ss last
+
+-- how many positions of several sequences use m on activity a's side of a kind, and in how many of them activity a occurs
+unfoldable pub usesIn : Side → List (List Binding) → ℕ → ℕ → ℕ
+usesIn side [] a m = 0
+usesIn side (s ∷ ss) a m = uses side s a m + usesIn side ss a m
+
+unfoldable pub occurrencesIn : List (List Binding) → ℕ → ℕ
+occurrencesIn [] a = 0
+occurrencesIn (s ∷ ss) a = occurrences s a + occurrencesIn ss a
 
 -- what is promised of a list of calls, the first of which is given the net `first`
 pub record Promise (first : Net) (calls : List Call) : Type 0 where
@@ -64,6 +75,10 @@ pub record Promise (first : Net) (calls : List Call) : Type 0 where
   -- refused.)
   pub none-exactly : (net : Net) (trace : List ℕ) (budget : ℕ) (out : List ℕ) → ReplayNotRefused net trace budget out
       → SaysNone net trace budget out ↔ (EndsWithin net trace budget × NoChoice net trace)
+  -- 6. each set's count is the number of positions of the sequences accepted that use it, and an activity's input counts and its
+  -- output counts each add up to its occurrences in them (02, (viii))
+  pub counted : (side : Side) (a m : ℕ) → countOf (grown first calls) side a m ≡ usesIn side learned a m
+  pub counts-add-up : (side : Side) (a : ℕ) → total (countsOn (grown first calls) side a) ≡ occurrencesIn learned a
 
 -- demand 3: for every start and end that fresh accepts and every list of calls, starting from the net that fresh returns
 abbrev pub Promised : Type 0

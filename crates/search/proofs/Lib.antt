@@ -7,5 +7,6 @@ pub mod Turns
 pub mod ReplayLaws
 pub mod RefusalLaws
 pub mod ValidLaws
+pub mod UncountedLaws
 pub mod Theorems
 pub mod Examples

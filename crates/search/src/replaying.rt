@@ -60,7 +60,17 @@ pub fn replay(net: Net, trace: &[u32], budget: u64, out: &mut [u32]) -> ReplayAn
             place: place,
         };
     }
-    answered(replay_checked(net, trace, budget, out))
+    answered(replay_lent(
+        start,
+        end,
+        &net.inputs,
+        &net.input_len,
+        &net.outputs,
+        &net.output_len,
+        trace,
+        budget,
+        out,
+    ))
 }
 
 // Whether a trace of n entries isn't too long, and a buffer of `room` words has three for each position.
@@ -73,28 +83,8 @@ fn has_room(n: usize, room: usize) -> bool
     3 * n <= room
 }
 
-// The replay of a trace in a net that has been checked, which refuses none.
-fn replay_checked(net: Net, trace: &[u32], budget: u64, out: &mut [u32]) -> Outcome
-    requires { ⌜ Sides (net .inputs) (net .«input_len») × Sides (net .outputs) (net .«output_len») ⌝ }
-    requires { ⌜ TraceWithRoom (now trace) (length (now out)) ⌝ }
-    ensures { λ r. ⌜ CheckedDone net (now (trace .entry)) budget r (now (out .entry)) (now (out .exit)) ⌝ }
-{
-    let start = net.start;
-    let end = net.end;
-    replay_lent(
-        start,
-        end,
-        &net.inputs,
-        &net.input_len,
-        &net.outputs,
-        &net.output_len,
-        trace,
-        budget,
-        out,
-    )
-}
-
-// The same, with the net's arrays lent, so that nothing is copied for a further trace.
+// The replay of a trace in a net that has been checked, which refuses none, with the net's arrays lent, so that nothing is
+// copied.
 pub fn replay_lent<'a>(
     start: u32,
     end: u32,

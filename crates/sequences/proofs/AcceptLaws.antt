@@ -1,5 +1,5 @@
 -- Which sequences are accepted: every link of the chain passes exactly if its sentence doesn't hold, and together they say
--- well-formed and fitting. Assumes nothing.
+-- well-formed, fitting and countable. Assumes nothing.
 use Prim.Native.Nat.{ℕ, _+_, _*_, _/_, _%_, _≤_, _<_}
 use mathlib.Core.Path.{_≡_}
 use mathlib.Core.Bool.{true, Bool·beq}
@@ -24,10 +24,11 @@ use Rattle.net.proofs.OrderlyLaws.{orderly-facts, facts-orderly}
 use Rattle.net.proofs.PutSideLaws.{placed-one}
 use Rattle.net.proofs.ChainLaws.{unless-passes, none-passes}
 use Rattle.sequences.specs.Limits.{wordsWithin, withinLimits}
-use Rattle.sequences.specs.Gain.{Fits, fits}
+use Rattle.sequences.specs.Gain.{Fits, fits, countable}
 use Rattle.sequences.specs.Learn.{emptyAgree, firstWronglyEmpty, learnPositions, learnSays}
 use Rattle.sequences.specs.Statements.{Learnable}
 use Rattle.sequences.proofs.FitLaws.{Placed, fits-exactly}
+use Rattle.sequences.proofs.CountLaws.{countable-exactly}
 
 -- ---- refusal 9
 
@@ -129,6 +130,7 @@ module _ (net : Net) (ws : List ℕ) where
       let c₁₀ = none-passes (firstImpossible s) 10 _ .0 (c₉ .1) in
       let c₁₁ = unless-passes (allZero (ψ s)) 11 _ .0 (c₁₀ .1) in
       let c₁₂ = unless-passes (fits net s) 12 _ .0 (c₁₁ .1) in
+      let c₂₁ = unless-passes (countable net s) 21 _ .0 (c₁₂ .1) in
       let n = words-whole ws (c₃ .0) in
       let f = tests-well-formed (net .start) (net .end) s (c₄ .0) (c₇ .0) (empty-facts s (c₉ .0)) (c₁₀ .0) (c₁₁ .0) in
       record {
@@ -138,6 +140,7 @@ module _ (net : Net) (ws : List ℕ) where
         few = n .2;
         well-formed = f;
         fitting = fits-formed net s (c₂ .0) f .0 (c₁₂ .0);
+        counting = countable-exactly net s (c₂ .0) (f .activities-only) (c₁₂ .0) .0 (c₂₁ .0);
       }
 
   pub learnable-accepted : Learnable net ws → learnSays net ws .ok ≡ true
@@ -146,6 +149,7 @@ module _ (net : Net) (ws : List ℕ) where
       let s = bindings ws in
       let f = l .well-formed in
       let o = facts-orderly net (l .net-orderly) in
+      let fit = fits-formed net s o f .1 (l .fitting) in
       rw (
         o,
         whole-words ws (l .count) (l .whole) (l .few),
@@ -154,5 +158,6 @@ module _ (net : Net) (ws : List ℕ) where
         facts-empty s (formed-empty (net .start) (net .end) s f),
         formed-possible (net .start) (net .end) s f,
         formed-zero (net .start) (net .end) s f,
-        fits-formed net s o f .1 (l .fitting),
+        fit,
+        countable-exactly net s o (f .activities-only) fit .1 (l .counting),
       )

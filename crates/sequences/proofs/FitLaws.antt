@@ -22,7 +22,7 @@ use Rattle.net.proofs.OrderlyLaws.{sets-length, orderly-at-most}
 use Rattle.net.proofs.DistinctLaws.{distinct-more, at-most-listed, fewer}
 use Rattle.net.proofs.ListLaws.{head-or-later}
 use Rattle.net.proofs.RefusalLaws.{side-distinct}
-use Rattle.sequences.specs.Gain.{withPut, takesPut, withBinding, takesBinding, gained, fits, setFor, SetOf, Fits}
+use Rattle.sequences.specs.Gain.{withUse, takesPut, withBinding, takesBinding, gained, fits, setFor, SetOf, Fits}
 use Rattle.sequences.proofs.GrowthLaws.{Activities, with-binding-orderly, with-binding-on-side, set-first, set-later, gained-orderly, gained-on-side}
 
 -- ---- where every put is accepted
@@ -30,7 +30,7 @@ use Rattle.sequences.proofs.GrowthLaws.{Activities, with-binding-orderl
 accepted-fits : (net : Net) (s : List Binding) → orderly net ≡ true → Activities s → fits net s ≡ true → Fits net s
 accepted-fits net s o h f =
     let g = gained net s in
-    let q = gained-orderly net s o h in
+    let q = gained-orderly net s o h f in
     record {
       at-most = λ t a l.
           at-most-listed sets (λ m. OnSide net t a m ⊎ SetOf t s a m) (setsOn g t a) (side-distinct g q t a l)
@@ -52,7 +52,7 @@ module _ (net : Net) (b : Binding) (o : orderly net ≡ true) (h : b .activity <
       omega (arith, sets-length net o t (b .activity) h, f .1)
 
   refused-exceeds : misplaced (net .start) (b .activity) (b .input) ≡ false → misplaced (net .end) (b .activity) (b .output) ≡ false → (s : List Binding) → takesBinding net b ≡ false → Fits net (b ∷ s) → ⊥
-  unfolding takesBinding takesPut withPut
+  unfolding takesBinding takesPut withUse
   refused-exceeds pi po s k w =
       ⊎-elim (λ t. full-exceeds Output s po (rw t at k) w) (λ f. full-exceeds Input s pi f w)
       (true-or-false (sideSays (net .inputs) (net .«input_len») (net .start) (b .activity) (b .input) .ok))
@@ -70,12 +70,12 @@ abbrev pub Placed : Net → List Binding → Type 0
 Placed net s = (i : ℕ) → i < length s → (misplaced (net .start) (at s i .activity) (at s i .input) ≡ false) × (misplaced (net .end) (at s i .activity) (at s i .output) ≡ false)
 
 fits-accepted : (net : Net) (s : List Binding) → orderly net ≡ true → Activities s → Placed net s → Fits net s → fits net s ≡ true
-unfolding fits withBinding withPut
+unfolding fits withBinding withUse
 fits-accepted net [] o h p w = refl
 fits-accepted net (b ∷ s) o h p w =
     let h₀ = h 0 (omega arith) in
     ⊎-elim
-    (λ k. and-both k (fits-accepted (withBinding net b) s (with-binding-orderly net b o h₀) (λ i l. h (suc i) (omega arith)) (λ i l. p (suc i) (omega arith)) (fits-after net b o h₀ k s w)))
+    (λ k. and-both k (fits-accepted (withBinding net b) s (with-binding-orderly net b o h₀ k) (λ i l. h (suc i) (omega arith)) (λ i l. p (suc i) (omega arith)) (fits-after net b o h₀ k s w)))
     (λ k. absurd (refused-exceeds net b o h₀ (p 0 (omega arith) .0) (p 0 (omega arith) .1) s k w))
     (true-or-false (takesBinding net b))
 

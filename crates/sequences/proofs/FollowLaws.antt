@@ -19,12 +19,8 @@ use Rattle.obligations.proofs.StateLaws.{after-added, possible-none, taken-none
 use Rattle.obligations.proofs.SequenceLaws.{bindings-words, words-nil, words-cons, length-words, held-at, completes-nil, completes-cons}
 use Rattle.obligations.specs.Trace.{shaped}
 use Rattle.obligations.proofs.TraceLaws.{shaped-ext}
-use Rattle.net.specs.Refusals.{accepted, full-side}
 use Rattle.net.specs.Orderly.{orderly}
 use Rattle.net.specs.declared.Net.{Net}
-use Rattle.net.specs.Chains.{unless}
-use Rattle.sequences.specs.Gain.{gained, fits}
-use Rattle.sequences.specs.Learn.{newSets}
 use Rattle.sequences.specs.Statements.{Words}
 use Rattle.sequences.specs.Follow.{followedFrom, followed, followPositions, followSays, followGives, FollowDone}
 use Rattle.sequences.specs.Inner.{WithinLimits, TraceWithinLimits, limitsMeans, TraceLimitsOf, GainDone, RefusedWith, nextSet, TraceDone}
@@ -131,11 +127,7 @@ module _ (net : Net) (t : List ℕ) {r : LearnResult} where
 
   pub followed-or-full : shaped (net .start) (net .end) (length t) (λ i. getD t i 0) ≡ true → GainDone net (followed t) r → TraceDone net t r
   unfolding followPositions
-  followed-or-full h w = record { says = rw h (w .says); gives = rw h (w .gives ∙ by-fit (fits net (followed t))) }
-    where
-      by-fit : (b : Bool) → cond b (gained net (followed t)) net ≡ cond (unless b full-side (accepted (newSets net (followed t))) .ok) (gained net (followed t)) net
-      by-fit true = refl
-      by-fit false = refl
+  followed-or-full h w = record { says = rw h (w .says); gives = rw h (w .gives) }
 
   pub follow-disorderly : orderly net ≡ false → RefusedWith net 2 0 r → FollowDone net t r
   unfolding followSays followGives

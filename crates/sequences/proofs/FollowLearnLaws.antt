@@ -20,14 +20,13 @@ use Rattle.obligations.proofs.SetLaws.{lt-or-le}
 use Rattle.obligations.proofs.MemberLaws.{single-filled}
 use Rattle.obligations.proofs.TraceLaws.{no-activity-ext, activities-below, shaped-ext, shaped-facts}
 use Rattle.obligations.proofs.SequenceLaws.{bindings-words, length-words, completes-each, completes-zero, each-from-possible}
-use Rattle.net.specs.Refusals.{Says, accepted, refused}
+use Rattle.net.specs.Refusals.{Says, refused}
 use Rattle.net.specs.Orderly.{orderly}
 use Rattle.net.specs.declared.Net.{Net}
 use Rattle.net.specs.Chains.{unless, noneAt}
 use Rattle.sequences.specs.Limits.{wordsWithin, withinLimits, traceWithinLimits}
 use Rattle.net.specs.Traces.{traceWithin}
-use Rattle.sequences.specs.Gain.{fits}
-use Rattle.sequences.specs.Learn.{firstWronglyEmpty, newSets, learnPositions, learnSays, learnGives}
+use Rattle.sequences.specs.Learn.{firstWronglyEmpty, gainSays, learnPositions, learnSays, learnGives}
 use Rattle.sequences.specs.Follow.{followedFrom, followed, followPositions, followSays, followGives}
 use Rattle.sequences.specs.Statements.{FollowIsLearn}
 use Rattle.sequences.proofs.AcceptLaws.{EmptyWhere, facts-empty}
@@ -116,7 +115,7 @@ follow-ends : (net : Net) (t : List ℕ) → shaped (net .start) (net .end) (len
 unfolding followPositions
 follow-ends net t f = rw f
 
-follow-fits : (net : Net) (t : List ℕ) → shaped (net .start) (net .end) (length t) (λ i. getD t i 0) ≡ true → followPositions net t ≡ unless (fits net (followed t)) 12 (accepted (newSets net (followed t)))
+follow-fits : (net : Net) (t : List ℕ) → shaped (net .start) (net .end) (length t) (λ i. getD t i 0) ≡ true → followPositions net t ≡ gainSays net (followed t)
 unfolding followPositions
 follow-fits net t h = rw h
 
@@ -125,7 +124,7 @@ unfolding learnPositions
 learn-ends net s f = rw f
 
 learn-fits : (net : Net) (s : List Binding) → shaped (net .start) (net .end) (length s) (λ i. at s i .activity) ≡ true → firstWronglyEmpty s ≡ 0 → firstImpossible s ≡ 0 → allZero (ψ s) ≡ true
-    → learnPositions net s ≡ unless (fits net s) 12 (accepted (newSets net s))
+    → learnPositions net s ≡ gainSays net s
 unfolding learnPositions
 learn-fits net s h e p z = rw (h, e, p, z)
 

@@ -7,7 +7,7 @@ use native.Mathlib.Omega.{arith}
 use borrow.Author.Tests.{ne-eqb}
 use lib.ListN.{length, getD, drop}
 use Rattle.net.specs.Lists.{listed}
-use Rattle.net.specs.Sides.{sideIn}
+use Rattle.net.specs.Sides.{uncounted, sideIn}
 use Rattle.net.specs.Inner.{Sides}
 use Rattle.net.proofs.SideLaws.{length-side, side-at}
 use Rattle.net.proofs.ListLaws.{listed-here, listed-next, listed-end}
@@ -19,9 +19,11 @@ use Rattle.net.specs.declared.Net.{Net}
 use Rattle.walks.specs.Check.{checkMeans, passSays}
 use Rattle.walks.specs.declared.CheckAnswer.{CheckAnswer}
 use Rattle.walks.specs.declared.CheckAnswer.the-variants as check
+use Rattle.net.proofs.UncountedLaws.{uncounted-orderly}
 use Rattle.walks.proofs.CheckLaws.{Clear, passing-rest, answer-refused}
+use Rattle.walks.proofs.UncountedLaws.{passing-uncounted}
 use Rattle.sequences.specs.Run.{ran}
-use Rattle.sequences.specs.Judge.{judgeMeans, firstMissing, runSays, judgePositions, judgeSays}
+use Rattle.sequences.specs.Judge.{judgeMeans, onSideAt, firstMissing, runSays, judgePositions, judgeSays}
 use Rattle.sequences.specs.Inner.{limitsMeans, LimitsOf}
 use Rattle.sequences.specs.declared.JudgeAnswer.the-variants.{Judged, Refused}
 use Rattle.sequences.specs.declared.Limited.{Limited}
@@ -113,3 +115,13 @@ module _ (net : Net) (ws : List ℕ) where
     judged-positions n e =
         let q = sym (d .says (judgePositions net (bindings ws))) ∙ ap (λ (k : Limited). limitsMeans k (judgePositions net (bindings ws))) e in
         rw (o, q)
+
+-- ---- counts are passed over
+
+judged-uncounted : (net : Net) (s : List Binding) → judgePositions (uncounted net) s ≡ judgePositions net s
+unfolding judgePositions firstMissing onSideAt
+judged-uncounted net s = passing-uncounted net _
+
+pub judge-uncounted : (net : Net) (ws : List ℕ) → orderly net ≡ true → judgeSays (uncounted net) ws ≡ judgeSays net ws
+unfolding judgeSays
+judge-uncounted net ws o = rw (uncounted-orderly net o, o, judged-uncounted net (bindings ws))

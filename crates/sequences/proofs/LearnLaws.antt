@@ -1,7 +1,7 @@
 -- Refusal 9, position by position, and the chain of learn's refusals. Assumes nothing.
 use Prim.Native.Nat.{ℕ, _+_, _<_}
-use mathlib.Core.Path.{_≡_, refl, sym, ap, _∙_}
-use mathlib.Core.Bool.{Bool, true, false, cond, _&&_, Bool·beq, and-false}
+use mathlib.Core.Path.{_≡_, sym, ap, _∙_}
+use mathlib.Core.Bool.{Bool, true, false, _&&_, Bool·beq, and-false}
 use mathlib.Core.List.{List}
 use borrow.Author.Tests.{ne-eqb}
 use native.Mathlib.Numerals.{add-one}
@@ -11,13 +11,11 @@ use Rattle.obligations.specs.Sequence.{Binding, bindings, at}
 use Rattle.obligations.proofs.BoolLaws.{and-both}
 use Rattle.obligations.proofs.PositionLaws.{AllPass, pass-first, fails-first}
 use Rattle.obligations.specs.Trace.{shaped}
-use Rattle.net.specs.Refusals.{accepted, refused, full-side}
+use Rattle.net.specs.Refusals.{refused}
 use Rattle.net.specs.Orderly.{orderly}
 use Rattle.net.specs.declared.Net.{Net}
-use Rattle.net.specs.Chains.{unless}
 use Rattle.sequences.specs.Run.{ran}
-use Rattle.sequences.specs.Gain.{gained, fits}
-use Rattle.sequences.specs.Learn.{emptyAgree, firstWronglyEmpty, newSets, learnPositions, learnSays, learnGives, LearnDone}
+use Rattle.sequences.specs.Learn.{emptyAgree, firstWronglyEmpty, learnPositions, learnSays, learnGives, LearnDone}
 use Rattle.sequences.specs.Inner.{limitsMeans, LimitsOf, GainDone, RefusedWith, PositionsDone}
 use Rattle.sequences.specs.declared.Limited.{Limited}
 use Rattle.sequences.specs.declared.Limited.the-variants.{Within, Beyond}
@@ -75,11 +73,7 @@ module _ (net : Net) (s : List Binding) {r : LearnResult} where
 
       pub gained-or-full : (k : ℕ) → ran s ≡ Settled k → GainDone net s r → PositionsDone net s r
       unfolding learnPositions
-      gained-or-full k q w = let f = settled-shown s k q in record { says = rw (h, e, f .0, f .1) (w .says); gives = rw (h, e, f .0, f .1) (w .gives ∙ by-fit (fits net s)) }
-        where
-          by-fit : (t : Bool) → cond t (gained net s) net ≡ cond (unless t full-side (accepted (newSets net s)) .ok) (gained net s) net
-          by-fit true = refl
-          by-fit false = refl
+      gained-or-full k q w = let f = settled-shown s k q in record { says = rw (h, e, f .0, f .1) (w .says); gives = rw (h, e, f .0, f .1) (w .gives) }
 
 -- ---- the chain from refusal 2 on
 

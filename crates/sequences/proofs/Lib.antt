@@ -5,7 +5,9 @@ pub mod RunLaws
 pub mod GainLaws
 pub mod LearnLaws
 pub mod FollowLaws
+pub mod UseLaws
 pub mod GrowthLaws
+pub mod CountLaws
 pub mod FitLaws
 pub mod AcceptLaws
 pub mod FollowLearnLaws

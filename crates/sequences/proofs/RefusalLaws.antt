@@ -17,7 +17,7 @@ use Rattle.obligations.proofs.BoolLaws.{and-left, and-right, and-both, false-no
 use Rattle.obligations.proofs.SetLaws.{lt-or-le}
 use Rattle.obligations.proofs.TraceLaws.{shaped-facts, activities-below, shaped-ext}
 use Rattle.obligations.proofs.SequenceLaws.{possible-at, impossible-tests, zero-left, length-bindings}
-use Rattle.net.specs.Refusals.{Says, accepted, refused, outside-limits, missing-set, wrongly-empty, not-possible, left-over, full-side}
+use Rattle.net.specs.Refusals.{Says, accepted, refused, outside-limits, missing-set, wrongly-empty, not-possible, left-over, full-side, count-too-high}
 use Rattle.net.specs.Sentences.{Sentence, first, AsListed}
 use Rattle.net.specs.Chains.{unless, noneAt}
 use Rattle.net.specs.Orderly.{orderly}
@@ -29,13 +29,14 @@ use Rattle.net.proofs.CommonLaws.{orderly-link, failing-link, activities-link, 
 use Rattle.walks.proofs.CheckLaws.{passing-link}
 use Rattle.sequences.specs.Limits.{activityOf, notSequence, longTrace, wordsWithin, withinLimits, traceWithinLimits}
 use Rattle.sequences.specs.Run.{Impossible, notPossible, leftOver, largestTotal}
-use Rattle.sequences.specs.Gain.{Fits, notFitting, fits}
-use Rattle.sequences.specs.Learn.{WronglyEmpty, learnRefusals, emptyAgree, firstWronglyEmpty, newSets, learnPositions, learnSays}
+use Rattle.sequences.specs.Gain.{Fits, Countable, notFitting, notCountable, fits, countable}
+use Rattle.sequences.specs.Learn.{WronglyEmpty, learnRefusals, emptyAgree, firstWronglyEmpty, newSets, gainSays, learnPositions, learnSays}
 use Rattle.sequences.specs.Follow.{followed, followRefusals, followPositions, followSays}
 use Rattle.sequences.specs.Judge.{Missing, judgeRefusals, onSideAt, firstMissing, runSays, judgePositions, judgeSays}
 use Rattle.sequences.proofs.LimitLaws.{words-uneven, words-many, words-fit}
 use Rattle.sequences.proofs.GrowthLaws.{Activities}
 use Rattle.sequences.proofs.FitLaws.{Placed, fits-exactly}
+use Rattle.sequences.proofs.CountLaws.{countable-exactly}
 use Rattle.sequences.proofs.AcceptLaws.{empty-facts, well-placed, agree-exactly}
 use Rattle.sequences.proofs.FollowLaws.{length-followed, followed-activity}
 use Rattle.sequences.proofs.FollowLearnLaws.{followed-empty-where}
@@ -76,6 +77,11 @@ module _ (value : Says) (ss : List Sentence) (rest : Says) where
   fit-link net s o a p next =
       whole-link refused value full-side (Fits net s → ⊥) ss (fits net s) rest (λ e f. f (fits-exactly net s o a p .0 e)) (λ e w. false-not-true e (fits-exactly net s o a p .1 w)) next
 
+  count-link : (net : Net) (s : List Binding) → orderly net ≡ true → Activities s → fits net s ≡ true → (countable net s ≡ true → Told refused ss value rest)
+      → Told refused (notCountable net s ∷ ss) value (unless (countable net s) count-too-high rest)
+  count-link net s o a f next =
+      whole-link refused value count-too-high (Countable net s → ⊥) ss (countable net s) rest (λ e g. g (countable-exactly net s o a f .0 e)) (λ e c. false-not-true e (countable-exactly net s o a f .1 c)) next
+
   empty-link : (s : List Binding) → (firstWronglyEmpty s ≡ 0 → Told refused ss value rest) → Told refused (first wrongly-empty (length s) (WronglyEmpty s) ∷ ss) value (noneAt (firstWronglyEmpty s) wrongly-empty rest)
   unfolding firstWronglyEmpty
   empty-link s next =
@@ -89,6 +95,14 @@ module _ (value : Says) (ss : List Sentence) (rest : Says) where
       failing-link refused value ss rest missing-set (length s) (λ i. onSideAt net Input s i && onSideAt net Output s i) (Missing net s)
       (λ i l t b. b (and-left (onSideAt net Input s i) (onSideAt net Output s i) t, and-right (onSideAt net Input s i) (onSideAt net Output s i) t))
       (λ i l t w. false-not-true t (and-both (w .0) (w .1))) next
+
+-- 12 and 21, the last links of learn and of follow
+gain-told : (net : Net) (s : List Binding) → orderly net ≡ true → Activities s → Placed net s → Told refused (notFitting net s ∷ notCountable net s ∷ []) (accepted (newSets net s)) (gainSays net s)
+gain-told net s o a p =
+    let value = accepted (newSets net s) in
+    fit-link value _ _ net s o a p
+    (λ f. count-link value [] _ net s o a f
+    (λ c. told-end refused value))
 
 -- ---- learn
 
@@ -104,8 +118,7 @@ learn-told net ws =
     (λ h. empty-link value _ _ s
     (λ e. possible-link value _ _ s
     (λ p. left-link value _ _ s
-    (λ z. fit-link value [] _ net s o (activities-below (length s) (activityOf s) a) (well-placed net s (shaped-facts (net .start) (net .end) (length s) (activityOf s) h) (empty-facts s e))
-    (λ f. told-end refused value))))))))
+    (λ z. gain-told net s o (activities-below (length s) (activityOf s) a) (well-placed net s (shaped-facts (net .start) (net .end) (length s) (activityOf s) h) (empty-facts s e)))))))))
 
 pub learn-listed : (net : Net) (ws : List ℕ) → AsListed refused (learnRefusals net ws) (learnSays net ws)
 learn-listed net ws = chain-listed (learnRefusals net ws) refl (newSets net (bindings ws)) (learn-told net ws)
@@ -141,8 +154,7 @@ module _ (net : Net) (trace : List ℕ) where
       (λ o. trace-link value _ _
       (λ w. activities-link refused value _ _ (length trace) (activityIn trace)
       (λ a. shape-link refused value _ _ net (length trace) (activityIn trace)
-      (λ h. fit-link value [] _ net s o (followed-below a) (followed-placed a h)
-      (λ f. told-end refused value)))))
+      (λ h. gain-told net s o (followed-below a) (followed-placed a h)))))
 
   pub follow-listed : AsListed refused (followRefusals net trace) (followSays net trace)
   follow-listed = chain-listed (followRefusals net trace) refl (newSets net (followed trace)) follow-told

@@ -5,6 +5,7 @@ use mathlib.Core.Path.{_≡_, refl, sym, ap, subst, _∙_}
 use mathlib.Core.Bool.{true}
 use mathlib.Core.List.{List, [], _∷_}
 use mathlib.Core.Logic.{_↔_, inr}
+use borrow.Author.Tests.{eqb-true}
 use lib.ListN.{length}
 use Rattle.obligations.specs.State.{nothing}
 use Rattle.obligations.specs.Sequence.{bindings, at, WellFormed}
@@ -18,18 +19,21 @@ use Rattle.net.specs.declared.Net.{Net}
 use Rattle.net.specs.declared.Side.the-variants.{Input, Output}
 use Rattle.net.proofs.OrderlyLaws.{orderly-facts, facts-orderly}
 use Rattle.net.proofs.SentenceLaws.{given-exactly, told-accepted, told-value, told-ok}
+use Rattle.net.proofs.UncountedLaws.{passes-over}
 use Rattle.walks.specs.Check.{onNoWalk, nameUnanswered}
 use Rattle.sequences.specs.Limits.{activityOf, notSequence}
 use Rattle.sequences.specs.Run.{notPossible, leftOver, Peak, largestTotal}
-use Rattle.sequences.specs.Gain.{gained, fits}
+use Rattle.sequences.specs.Gain.{gained, fits, topped}
 use Rattle.sequences.specs.Learn.{learnRefusals, newSets, learnSays, learnGives}
 use Rattle.sequences.specs.Follow.{followGives}
-use Rattle.sequences.specs.Judge.{Missing, judgeRefusals}
-use Rattle.sequences.specs.Statements.{LearnListed, FollowListed, JudgeListed, JudgeUnanswered, NoneHoldsLearnable, LearnAccepts, FitsTestRight, LearnHolds, LearnValid, RefusedSame, FollowLearns, Judgeable, NoneHoldsJudgeable, JudgeAccepts, LargestIsPeak, PeakWithin, PeakBelow}
+use Rattle.sequences.specs.Judge.{Missing, judgeRefusals, judgeSays}
+use Rattle.sequences.specs.Statements.{LearnListed, FollowListed, JudgeListed, JudgeUnanswered, NoneHoldsLearnable, LearnAccepts, FitsTestRight, CountableTestRight, LearnHolds, LearnAddsUp, LearnValid, RefusedSame, FollowLearns, Judgeable, NoneHoldsJudgeable, JudgeAccepts, LargestIsPeak, PeakWithin, PeakBelow, JudgePassesOver}
 use Rattle.sequences.proofs.AcceptLaws.{fits-formed, formed-possible, accepted-learnable, learnable-accepted}
 use Rattle.sequences.proofs.PeakLaws.{largest-exactly, peak-bounded, sizes-bounded}
+use Rattle.sequences.proofs.JudgeLaws.{judge-uncounted}
 use Rattle.sequences.proofs.ValidLaws.{accepted-judgeable, judgeable-accepted}
 use Rattle.sequences.proofs.RefusalLaws.{learn-told, learn-listed, follow-listed, judge-told, judge-listed}
+use Rattle.sequences.proofs.CountLaws.{gained-count, gained-sum, countable-exactly}
 use Rattle.sequences.proofs.GrowthLaws.{Activities, gained-orderly, gained-contained, gained-size, gained-on-side}
 use Rattle.sequences.proofs.FollowLearnLaws.{follow-is-learn}
 
@@ -69,17 +73,27 @@ none-holds-learnable net ws =
 pub fits-test-right : FitsTestRight
 fits-test-right net s o f = fits-formed net s (facts-orderly net o) f
 
+pub countable-test-right : CountableTestRight
+countable-test-right net s o w f = countable-exactly net s (facts-orderly net o) (w .activities-only) f
+
 -- what an accepted learn shows of the net and the sequence, by the tests
 record LearnedParts (net : Net) (ws : List ℕ) : Type 0 where
   net-orderly : orderly net ≡ true
   activities-only : Activities (bindings ws)
   fitting : fits net (bindings ws) ≡ true
+  clear : topped net (bindings ws) ≡ 0
 
 accepted-parts : (net : Net) (ws : List ℕ) → learnSays net ws .ok ≡ true → LearnedParts net ws
 accepted-parts net ws e =
     let l = accepted-learnable net ws e in
     let o = facts-orderly net (l .net-orderly) in
-    record { net-orderly = o; activities-only = l .well-formed .activities-only; fitting = fits-formed net (bindings ws) o (l .well-formed) .1 (l .fitting) }
+    let f = fits-formed net (bindings ws) o (l .well-formed) .1 (l .fitting) in
+    record {
+      net-orderly = o;
+      activities-only = l .well-formed .activities-only;
+      fitting = f;
+      clear = eqb-true (topped net (bindings ws)) 0 (countable-exactly net (bindings ws) o (l .well-formed .activities-only) f .1 (l .counting));
+    }
 
 -- what learn gives where it accepts
 learn-gives : (net : Net) (ws : List ℕ) (new : ℕ) → learnSays net ws ≡ accepted new → learnGives net ws ≡ gained net (bindings ws)
@@ -99,27 +113,33 @@ learn-accepts net ws new = (
     grown n e =
         let p = accepted-parts net ws (ap (λ (s : Says). s .ok) e) in
         let v = told-value (learnRefusals net ws) (newSets net (bindings ws)) n (learn-told net ws) .0 e in
-        omega (arith, v .1, ap netSize (learn-gives net ws n e), gained-size net (bindings ws) (p .net-orderly) (p .activities-only))
+        omega (arith, v .1, ap netSize (learn-gives net ws n e), gained-size net (bindings ws) (p .net-orderly) (p .activities-only) (p .fitting))
 
 pub learn-holds : LearnHolds
 learn-holds net ws new said =
     let e = ap (λ (s : Says). s .ok) said in
     let p = accepted-parts net ws e in
     let g = learn-gives net ws new said in
-    let c = gained-contained net (bindings ws) (p .net-orderly) (p .activities-only) in
+    let c = gained-contained net (bindings ws) (p .net-orderly) (p .activities-only) (p .fitting) in
     record {
       same-start = ap (λ (n : Net). n .start) g ∙ sym (c .same-start);
       same-end = ap (λ (n : Net). n .end) g ∙ sym (c .same-end);
-      is-orderly = orderly-facts (learnGives net ws) (ap orderly g ∙ gained-orderly net (bindings ws) (p .net-orderly) (p .activities-only));
+      is-orderly = orderly-facts (learnGives net ws) (ap orderly g ∙ gained-orderly net (bindings ws) (p .net-orderly) (p .activities-only) (p .fitting));
       on-sides = λ side a m. rw g (gained-on-side net (bindings ws) (p .net-orderly) (p .activities-only) (p .fitting) side a m);
+      counted = λ side a m. rw g (gained-count net (bindings ws) (p .net-orderly) (p .activities-only) (p .fitting) (p .clear) side a m);
     }
+
+pub learn-adds-up : LearnAddsUp
+learn-adds-up net ws new said side a =
+    let p = accepted-parts net ws (ap (λ (s : Says). s .ok) said) in
+    rw (learn-gives net ws new said) (gained-sum net (bindings ws) (p .net-orderly) (p .activities-only) (p .fitting) (p .clear) side a)
 
 pub learn-valid : LearnValid
 learn-valid net ws new said =
     let e = ap (λ (s : Says). s .ok) said in
     let s = bindings ws in
     let p = accepted-parts net ws e in
-    let k = gained-contained net s (p .net-orderly) (p .activities-only) in
+    let k = gained-contained net s (p .net-orderly) (p .activities-only) (p .fitting) in
     let f = accepted-learnable net ws e .well-formed in
     rw (learn-gives net ws new said)
     (record {
@@ -176,3 +196,6 @@ peak-below net ws peak e =
     let f = l .valid .well-formed in
     let sizes = sizes-bounded (bindings ws) n (omega (arith, f .shape .two)) (f .output-empty-last-only n (omega (arith, f .shape .two)) .1 (omega (arith, f .shape .two))) in
     omega (arith, sizes, peak-within net ws peak e .1, length-bindings ws (l .count) (l .whole), l .few)
+
+pub judge-passes-over : JudgePassesOver
+judge-passes-over net other ws o q e = passes-over (λ n. judgeSays n ws) (λ n. judge-uncounted n ws) net other o q e

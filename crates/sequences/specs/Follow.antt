@@ -1,4 +1,4 @@
--- Follow (01, "Follow"; 000, Definition 6): refusals 2, 3, 4, 7, 12 in this order.
+-- Follow (01, "Follow"; 000, Definition 6): refusals 2, 3, 4, 7, 12 and 21 (02, (viii)) in this order.
 use Prim.Native.Nat.{ℕ}
 use mathlib.Core.Path.{_≡_}
 use mathlib.Core.Bool.{cond}
@@ -6,7 +6,7 @@ use mathlib.Core.List.{List, [], _∷_}
 use lib.ListN.{length}
 use Rattle.obligations.specs.Sets.{single}
 use Rattle.obligations.specs.Sequence.{Binding}
-use Rattle.net.specs.Refusals.{Says, accepted, disorderly, wrong-ends, full-side}
+use Rattle.net.specs.Refusals.{Says, disorderly, wrong-ends}
 use Rattle.net.specs.Sentences.{Sentence}
 use Rattle.net.specs.Chains.{unless}
 use Rattle.net.specs.Orderly.{orderly}
@@ -14,8 +14,8 @@ use Rattle.net.specs.Common.{notOrderly, notActivities, notShaped}
 use Rattle.net.specs.Traces.{activityIn, traceShaped}
 use Rattle.net.specs.declared.Net.{Net}
 use Rattle.sequences.specs.Limits.{longTrace, traceWithinLimits}
-use Rattle.sequences.specs.Gain.{notFitting, gained, fits}
-use Rattle.sequences.specs.Learn.{learnMeans, newSets}
+use Rattle.sequences.specs.Gain.{notFitting, notCountable, gained}
+use Rattle.sequences.specs.Learn.{learnMeans, gainSays}
 use Rattle.sequences.specs.declared.LearnResult.{LearnResult}
 
 -- the sequence of a trace: X is the activity before, empty at the first, and Y the activity after, empty at the last;
@@ -36,14 +36,14 @@ followRefusals net trace =
     ∷ notActivities (length trace) (activityIn trace)
     ∷ notShaped net (length trace) (activityIn trace)
     ∷ notFitting net (followed trace)
+    ∷ notCountable net (followed trace)
     ∷ []
 
--- refusals 7 and 12, of a trace within the limits
+-- refusals 7, 12 and 21, of a trace within the limits
 unfoldable pub followPositions : Net → List ℕ → Says
 followPositions net trace =
     unless (traceShaped (net .start) (net .end) trace) wrong-ends
-    (unless (fits net (followed trace)) full-side
-    (accepted (newSets net (followed trace))))
+    (gainSays net (followed trace))
 
 -- refusals 2, 3 and 4, then those
 unfoldable pub followSays : Net → List ℕ → Says

@@ -1,20 +1,19 @@
 -- What inner functions leave and answer: no sentence of the papers speaks of these.
 use Prim.Native.Nat.{ℕ, _+_, _*_, _≤_, _<_}
 use mathlib.Core.Path.{_≡_}
-use mathlib.Core.Bool.{cond}
+use mathlib.Core.Bool.{true, cond}
 use mathlib.Core.List.{List}
 use lib.Dec.{ltb}
 use lib.ListN.{length, getD}
 use Rattle.obligations.specs.Limits.{activities, positions}
 use Rattle.obligations.specs.Sets.{single}
 use Rattle.obligations.specs.Sequence.{Binding}
-use Rattle.net.specs.Refusals.{Says, accepted, refused, full-side}
-use Rattle.net.specs.Chains.{unless}
+use Rattle.net.specs.Refusals.{Says, refused}
 use Rattle.net.specs.Put.{sideSays, putMasks, putLengths}
 use Rattle.net.specs.declared.Net.{Net}
 use Rattle.sequences.specs.Limits.{withinLimits, traceWithinLimits}
-use Rattle.sequences.specs.Gain.{gained, fits}
-use Rattle.sequences.specs.Learn.{learnMeans, newSets, learnPositions}
+use Rattle.sequences.specs.Gain.{raisedAt, toppedAt, usedCounts, toppedCounts, gained}
+use Rattle.sequences.specs.Learn.{learnMeans, gainSays, learnPositions}
 use Rattle.sequences.specs.Follow.{followed, followPositions}
 use Rattle.sequences.specs.declared.Limited.{Limited}
 use Rattle.sequences.specs.declared.Limited.the-variants.{Within, Beyond}
@@ -52,19 +51,26 @@ pub record TraceLimitsOf (trace : List ℕ) (r : Limited) : Type 0 where
 
 -- ---- gaining
 
--- how many sets a put adds, if it is accepted
-unfoldable pub gainedBy : Says → Gained
-gainedBy says = cond (says .ok) (Added (says .value)) NoRoom
+-- what a raise leaves: how many counts couldn't be raised, and the counts
+pub record Raised (counts : List ℕ) (i r : ℕ) (counts′ : List ℕ) : Type 0 where
+  pub tops : r ≡ toppedAt counts i
+  pub counts-are : counts′ ≡ raisedAt counts i
 
-pub record SetGained (masks lengths : List ℕ) (empty a m : ℕ) (r : Gained) (masks′ lengths′ : List ℕ) : Type 0 where
-  pub adds : r ≡ gainedBy (sideSays masks lengths empty a m)
+-- how many sets a put adds, if it is accepted, and how many counts couldn't be raised
+unfoldable pub gainedBy : Says → ℕ → Gained
+gainedBy says tops = cond (says .ok) (Added (says .value) tops) NoRoom
+
+-- what is left of the arrays of one kind of side; where the put isn't accepted the counts don't matter
+pub record SetGained (masks lengths counts : List ℕ) (empty a m : ℕ) (r : Gained) (masks′ lengths′ counts′ : List ℕ) : Type 0 where
+  pub adds : r ≡ gainedBy (sideSays masks lengths empty a m) (toppedCounts masks lengths counts empty a m)
   pub masks-are : masks′ ≡ putMasks masks lengths empty a m
   pub lengths-are : lengths′ ≡ putLengths masks lengths empty a m
+  pub counts-are : sideSays masks lengths empty a m .ok ≡ true → counts′ ≡ usedCounts masks lengths counts empty a m
 
--- refusal 12 alone, for a sequence that no other refusal holds of
+-- refusals 12 and 21 alone, for a sequence that no other refusal holds of
 pub record GainDone (net : Net) (s : List Binding) (r : LearnResult) : Type 0 where
-  pub says : learnMeans (r .answer) ≡ unless (fits net s) full-side (accepted (newSets net s))
-  pub gives : r .net ≡ cond (fits net s) (gained net s) net
+  pub says : learnMeans (r .answer) ≡ gainSays net s
+  pub gives : r .net ≡ cond (gainSays net s .ok) (gained net s) net
 
 -- a refused call: the refusal's number and place, and the net as it was given
 pub record RefusedWith (net : Net) (number place : ℕ) (r : LearnResult) : Type 0 where

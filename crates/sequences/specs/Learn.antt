@@ -1,4 +1,4 @@
--- Learn (01, "Learning and containment"): refusals 2, 3, 4, 7, 9, 10, 11, 12 in this order.
+-- Learn (01, "Learning and containment"): refusals 2, 3, 4, 7, 9, 10, 11, 12 and 21 (02, (viii)) in this order.
 use Prim.Native.Nat.{ℕ, _+_, _-_}
 use mathlib.Core.Path.{_≡_}
 use mathlib.Core.Bool.{Bool, cond, _&&_, Bool·beq}
@@ -10,7 +10,7 @@ use Rattle.obligations.specs.Tests.{firstFailing}
 use Rattle.obligations.specs.Trace.{shaped}
 use Rattle.obligations.specs.State.{allZero}
 use Rattle.obligations.specs.Sequence.{Binding, bindings, at, ψ, firstImpossible}
-use Rattle.net.specs.Refusals.{Says, accepted, refused, disorderly, wrong-ends, wrongly-empty, not-possible, left-over, full-side}
+use Rattle.net.specs.Refusals.{Says, accepted, refused, disorderly, wrong-ends, wrongly-empty, not-possible, left-over, full-side, count-too-high}
 use Rattle.net.specs.Sentences.{Sentence, first}
 use Rattle.net.specs.Chains.{unless, noneAt}
 use Rattle.net.specs.Sides.{netSize}
@@ -19,7 +19,7 @@ use Rattle.net.specs.Common.{notOrderly, notActivities, notShaped}
 use Rattle.net.specs.declared.Net.{Net}
 use Rattle.sequences.specs.Limits.{activityOf, notSequence, withinLimits}
 use Rattle.sequences.specs.Run.{notPossible, leftOver}
-use Rattle.sequences.specs.Gain.{notFitting, gained, fits}
+use Rattle.sequences.specs.Gain.{notFitting, notCountable, gained, fits, countable}
 use Rattle.sequences.specs.declared.LearnAnswer.{LearnAnswer}
 use Rattle.sequences.specs.declared.LearnAnswer.the-variants.{Learned, Refused}
 use Rattle.sequences.specs.declared.LearnResult.{LearnResult}
@@ -46,6 +46,7 @@ learnRefusals net ws =
     ∷ notPossible s
     ∷ leftOver s
     ∷ notFitting net s
+    ∷ notCountable net s
     ∷ []
 
 -- ---- what is said
@@ -61,21 +62,27 @@ firstWronglyEmpty s = firstFailing (length s) (emptyAgree s)
 abbrev pub newSets : Net → List Binding → ℕ
 newSets net s = netSize (gained net s) - netSize net
 
--- refusals 7, 9, 10, 11 and 12, of a sequence within the limits
+-- refusals 12 and 21, and the number of new sets, for follow too
+abbrev pub gainSays : Net → List Binding → Says
+gainSays net s =
+    unless (fits net s) full-side
+    (unless (countable net s) count-too-high
+    (accepted (newSets net s)))
+
+-- refusals 7, 9, 10, 11, 12 and 21, of a sequence within the limits
 unfoldable pub learnPositions : Net → List Binding → Says
 learnPositions net s =
     unless (shaped (net .start) (net .end) (length s) (activityOf s)) wrong-ends
     (noneAt (firstWronglyEmpty s) wrongly-empty
     (noneAt (firstImpossible s) not-possible
     (unless (allZero (ψ s)) left-over
-    (unless (fits net s) full-side
-    (accepted (newSets net s))))))
+    (gainSays net s))))
 
 -- refusals 2, 3 and 4, then those
 unfoldable pub learnSays : Net → List ℕ → Says
 learnSays net ws = unless (orderly net) disorderly (withinLimits ws (learnPositions net (bindings ws)))
 
--- the net that learn returns: with the sequence's sets if it was accepted, else the very net given
+-- the net that learn returns: with the sequence's sets and uses if it was accepted, else the very net given
 unfoldable pub learnGives : Net → List ℕ → Net
 learnGives net ws = cond (learnSays net ws .ok) (gained net (bindings ws)) net
 

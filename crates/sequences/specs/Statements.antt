@@ -7,20 +7,21 @@ use mathlib.Core.List.{List, [], _∷_}
 use mathlib.Core.Logic.{_↔_}
 use lib.ListN.{length, getD}
 use Rattle.obligations.specs.Limits.{activities, masks, positions}
-use Rattle.obligations.specs.State.{nothing}
+use Rattle.obligations.specs.State.{nothing, total}
 use Rattle.obligations.specs.Sequence.{Binding, bindings, words, WellFormed}
 use Rattle.net.specs.Refusals.{name-unanswered}
 use Rattle.net.specs.Sentences.{Lowest, NoneHolds, AsListed}
-use Rattle.net.specs.Sides.{netSize}
+use Rattle.net.specs.Sides.{SameButCounts, countsOn, netSize}
 use Rattle.net.specs.Orderly.{Orderly}
 use Rattle.net.specs.Common.{notOrderly, notActivities}
 use Rattle.net.specs.Valid.{Valid}
 use Rattle.net.specs.declared.Net.{Net}
+use Rattle.net.specs.declared.Side.{Side}
 use Rattle.walks.specs.Walk.{Passes}
 use Rattle.walks.specs.Check.{onNoWalk, Unanswered}
 use Rattle.sequences.specs.Limits.{activityOf, notSequence}
 use Rattle.sequences.specs.Run.{totalAfter, Peak, largestTotal, outputSizes}
-use Rattle.sequences.specs.Gain.{Fits, Gains, fits}
+use Rattle.sequences.specs.Gain.{occurrences, Fits, Countable, Gains, fits, countable}
 use Rattle.sequences.specs.Learn.{learnMeans, learnRefusals, learnSays, learnGives}
 use Rattle.sequences.specs.Judge.{judgeMeans, judgeRefusals, judgeSays}
 use Rattle.sequences.specs.Follow.{followed, followRefusals, followSays, followGives}
@@ -49,7 +50,7 @@ JudgeUnanswered =
 -- ---- learn
 
 -- what learn accepts: an orderly net, and words that are a sequence within the limits, well-formed for the net's start and
--- end, whose sets fit
+-- end, whose sets fit and whose uses can be counted
 pub record Learnable (net : Net) (ws : List ℕ) : Type 0 where
   pub net-orderly : Orderly net
   pub count : ℕ
@@ -57,6 +58,7 @@ pub record Learnable (net : Net) (ws : List ℕ) : Type 0 where
   pub few : count ≤ positions
   pub well-formed : WellFormed (net .start) (net .end) (bindings ws)
   pub fitting : Fits net (bindings ws)
+  pub counting : Countable net (bindings ws)
 
 -- "well-formed and fits, which together mean that no refusal in these papers holds of the call"
 abbrev pub NoneHoldsLearnable : Type 0
@@ -72,9 +74,19 @@ LearnAccepts =
 abbrev pub FitsTestRight : Type 0
 FitsTestRight = (net : Net) (s : List Binding) → Orderly net → WellFormed (net .start) (net .end) s → (fits net s ≡ true) ↔ Fits net s
 
--- an accepted learn returns the net with exactly the sequence's sets more
+-- and the test that its uses can be counted
+abbrev pub CountableTestRight : Type 0
+CountableTestRight = (net : Net) (s : List Binding) → Orderly net → WellFormed (net .start) (net .end) s → fits net s ≡ true → (countable net s ≡ true) ↔ Countable net s
+
+-- an accepted learn returns the net with exactly the sequence's sets more, and with their uses counted
 abbrev pub LearnHolds : Type 0
 LearnHolds = (net : Net) (ws : List ℕ) (new : ℕ) → learnSays net ws ≡ learnMeans (Learned new) → Gains net (bindings ws) (learnGives net ws)
+
+-- the counts on each side of an activity then add up to so many more as the activity occurs in the sequence
+abbrev pub LearnAddsUp : Type 0
+LearnAddsUp =
+    (net : Net) (ws : List ℕ) (new : ℕ) → learnSays net ws ≡ learnMeans (Learned new)
+    → (side : Side) (a : ℕ) → total (countsOn (learnGives net ws) side a) ≡ total (countsOn net side a) + occurrences (bindings ws) a
 
 -- an accepted sequence is valid in the net that learn returns
 abbrev pub LearnValid : Type 0
@@ -125,6 +137,10 @@ PeakWithin =
 -- and it is below 32 times the limit of positions
 abbrev pub PeakBelow : Type 0
 PeakBelow = (net : Net) (ws : List ℕ) (peak : ℕ) → judgeSays net ws ≡ judgeMeans (judge.Judged peak) → peak < activities * positions
+
+-- judge passes over the counts of an orderly record (02, (viii))
+abbrev pub JudgePassesOver : Type 0
+JudgePassesOver = (net other : Net) (ws : List ℕ) → Orderly net → Orderly other → SameButCounts net other → judgeSays net ws ≡ judgeSays other ws
 
 -- each word is of 32 bits, as every word in a program is
 abbrev pub Words : List ℕ → Type 0

@@ -1,31 +1,34 @@
-// The net gains a sequence's sets, for learn and follow.
+// The net gains a sequence's sets and counts their uses, for learn and follow.
 
 use crate::LearnAnswer;
 use crate::LearnResult;
 use net::LISTS;
 use net::Net;
 use net::PLACES;
-use net::PutAnswer;
-use net::putting::put_side;
+use net::putting::Placed;
+use net::putting::put_counted;
 use net::refusal;
 ghost use mathlib.Core.Path.{_≡_};
 ghost use mathlib.Core.Bool.{true};
-ghost use Prim.Native.Nat.{_<_, _≤_};
-ghost use lib.ListN.{length, getD};
+ghost use Prim.Native.Nat.{_<_};
+ghost use lib.ListN.{length};
 ghost use Rattle.obligations.specs.Limits.{activities};
 ghost use Rattle.obligations.specs.Sequence.{bindings};
-ghost use Rattle.net.specs.Limits.{sets, places};
+ghost use Rattle.net.specs.Limits.{places};
+ghost use Rattle.net.specs.Inner.{OrderlySides};
 ghost use Rattle.net.specs.Orderly.{orderly};
-ghost use Rattle.sequences.specs.Inner.{WithinLimits, SetGained, GainDone, RefusedWith};
+ghost use Rattle.sequences.specs.Inner.{WithinLimits, Raised, SetGained, GainDone, RefusedWith};
 
-// Added: how many sets a put added. NoRoom: the side can't take the set.
+// What a position's set does to its side.
 enum Gained {
-    Added(u32),
+    // How many sets it adds, and how many counts are at their top and can't be raised: each 0 or 1.
+    Added(u32, u32),
+    // The side can't take the set.
     NoRoom,
 }
 
-// Puts the n positions' sets on their sides, in place in copies of the net's arrays, so that the net is copied once and not
-// for each position. Where a side would exceed its sets the net given is returned.
+// Puts the n positions' sets on their sides and counts their uses, in place in copies of the net's arrays, so that the net is
+// copied once and not for each position. Where a side would exceed its sets or a count its top the net given is returned.
 pub fn gain(net: Net, words: &[u32], n: usize) -> LearnResult
     requires { ⌜ orderly net ≡ true ⌝ }
     requires { ⌜ WithinLimits (now words) n ⌝ }
@@ -35,24 +38,45 @@ pub fn gain(net: Net, words: &[u32], n: usize) -> LearnResult
     let end = net.end;
     let mut inputs = net.inputs;
     let mut input_len = net.input_len;
+    let mut input_counts = net.input_counts;
     let mut outputs = net.outputs;
     let mut output_len = net.output_len;
+    let mut output_counts = net.output_counts;
     let mut new: u32 = 0;
+    let mut topped: u32 = 0;
     let mut i: usize = 0;
     let mut at: usize = 0;
     while i < n {
         let a = words[at];
-        let input = gain_set(&mut inputs, &mut input_len, start, a, words[at + 1]);
-        let Gained::Added(x) = input else {
+        let input = gain_set(
+            &mut inputs,
+            &mut input_len,
+            &mut input_counts,
+            start,
+            a,
+            words[at + 1],
+        );
+        let Gained::Added(x, u) = input else {
             return refuse(net, refusal::FULL_SIDE, 0);
         };
-        let output = gain_set(&mut outputs, &mut output_len, end, a, words[at + 2]);
-        let Gained::Added(y) = output else {
+        let output = gain_set(
+            &mut outputs,
+            &mut output_len,
+            &mut output_counts,
+            end,
+            a,
+            words[at + 2],
+        );
+        let Gained::Added(y, v) = output else {
             return refuse(net, refusal::FULL_SIDE, 0);
         };
         new += x + y;
+        topped += u + v;
         i += 1;
         at += 3;
+    }
+    if topped != 0 {
+        return refuse(net, refusal::COUNT_TOO_HIGH, 0);
     }
     let grown = Net {
         start: start,
@@ -61,6 +85,8 @@ pub fn gain(net: Net, words: &[u32], n: usize) -> LearnResult
         outputs: outputs,
         input_len: input_len,
         output_len: output_len,
+        input_counts: input_counts,
+        output_counts: output_counts,
     };
     LearnResult {
         answer: LearnAnswer::Learned { new: new },
@@ -81,25 +107,39 @@ pub fn refuse(net: Net, number: u32, place: u32) -> LearnResult
     }
 }
 
-// Puts m on activity a's side and answers how many sets that adds.
+// Puts m on activity a's side and counts its use.
 fn gain_set(
     masks: &mut [u32; PLACES],
     lengths: &mut [u32; LISTS],
+    counts: &mut [u32; PLACES],
     empty: u32,
     a: u32,
     m: u32,
 ) -> Gained
-    requires { ⌜ (length (now masks) ≡ places) × (length (now lengths) ≡ activities) ⌝ }
-    requires { ⌜ (a < activities) × (getD (now lengths) a 0 ≤ sets) ⌝ }
-    ensures { λ r. ⌜ SetGained (now (masks .entry)) (now (lengths .entry)) empty a m r (now (masks .exit)) (now (lengths .exit)) ⌝ }
+    requires { ⌜ OrderlySides (now masks) (now lengths) empty × (length (now counts) ≡ places) × (a < activities) ⌝ }
+    ensures { λ r. ⌜ SetGained (now (masks .entry)) (now (lengths .entry)) (now (counts .entry)) empty a m r (now (masks .exit)) (now (lengths .exit)) (now (counts .exit)) ⌝ }
 {
-    let answer = put_side(masks, lengths, empty, a, m);
-    match answer {
-        PutAnswer::New => Gained::Added(1),
-        PutAnswer::Present => Gained::Added(0),
-        PutAnswer::Refused {
+    let placed = put_counted(masks, lengths, counts, empty, a, m);
+    match placed {
+        Placed::New(at) => Gained::Added(1, raise(counts, at)),
+        Placed::Present(at) => Gained::Added(0, raise(counts, at)),
+        Placed::Refused {
             number: _,
             place: _,
         } => Gained::NoRoom,
+    }
+}
+
+// Raises the count at a place by one and answers 0; one that is at its top stays, and the answer is 1.
+fn raise(counts: &mut [u32; PLACES], at: usize) -> u32
+    requires { ⌜ (length (now counts) ≡ places) × (at < places) ⌝ }
+    ensures { λ r. ⌜ Raised (now (counts .entry)) at r (now (counts .exit)) ⌝ }
+{
+    let count = counts[at];
+    if count < u32::MAX {
+        counts[at] = count + 1;
+        0
+    } else {
+        1
     }
 }

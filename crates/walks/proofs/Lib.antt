@@ -10,5 +10,6 @@ pub mod WalkLaws
 pub mod NoneInLaws
 pub mod CheckLaws
 pub mod GrowLaws
+pub mod UncountedLaws
 pub mod Theorems
 pub mod Examples

@@ -7,12 +7,14 @@ use Rattle.net.specs.Common.{notOrderly}
 use Rattle.net.specs.declared.Net.{Net}
 use Rattle.net.proofs.OrderlyLaws.{facts-orderly}
 use Rattle.net.proofs.SentenceLaws.{given-exactly, told-accepted}
+use Rattle.net.proofs.UncountedLaws.{passes-over}
 use Rattle.walks.specs.Arcs.{arcs}
 use Rattle.walks.specs.Walk.{Passes}
 use Rattle.walks.specs.Check.{onNoWalk, nameUnanswered, checkRefusals, checkSays}
-use Rattle.walks.specs.Statements.{ArcTestRight, CheckListed, UnansweredExactly, NoneHoldsPasses, PassingAccepted, ArcsOnEitherSide, WalksGrow}
+use Rattle.walks.specs.Statements.{ArcTestRight, CheckListed, UnansweredExactly, NoneHoldsPasses, PassingAccepted, ArcsOnEitherSide, CheckPassesOver, WalksGrow}
 use Rattle.walks.proofs.ArcLaws.{arc-facts}
 use Rattle.walks.proofs.CheckLaws.{says-clear, passes-clear, check-listed, check-told, none-before-partners, said-passes}
+use Rattle.walks.proofs.UncountedLaws.{check-says-uncounted}
 use Rattle.walks.proofs.GrowLaws.{arcs-grow, walk-grows}
 
 pub arc-test-right : ArcTestRight
@@ -44,6 +46,9 @@ pub none-holds-passes : NoneHoldsPasses
 none-holds-passes net =
     let t = told-accepted (checkRefusals net) (arcs net) (check-told net) in
     ((λ none. said-passes net (ap (λ (s : Says). s .ok) (t .1 none))), (λ p. t .0 (passes-says net p)))
+
+pub check-passes-over : CheckPassesOver
+check-passes-over net other o q e = passes-over checkSays check-says-uncounted net other o q e
 
 pub arcs-on-either-side : ArcsOnEitherSide
 arcs-on-either-side net s p q hp hq =

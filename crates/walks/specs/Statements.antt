@@ -7,6 +7,7 @@ use mathlib.Core.Bool.{true}
 use Rattle.obligations.specs.Limits.{activities}
 use Rattle.net.specs.Refusals.{name-unanswered}
 use Rattle.net.specs.Sentences.{Lowest, NoneHolds, AsListed}
+use Rattle.net.specs.Sides.{SameButCounts}
 use Rattle.net.specs.Orderly.{Orderly}
 use Rattle.net.specs.Contained.{Contained}
 use Rattle.net.specs.declared.Net.{Net}
@@ -42,6 +43,10 @@ PassingAccepted = (net : Net) (n : ℕ) → (checkSays net ≡ checkMeans (Passe
 -- the arcs of a net that passes are read from its input sets as from its output sets (003, Definition 1)
 abbrev pub ArcsOnEitherSide : Type 0
 ArcsOnEitherSide = (net : Net) → Passes net → (p q : ℕ) → p < activities → q < activities → (Arc net p q ↔ Names net Input q p) × (Arc net p q ↔ Names net Output p q)
+
+-- the check passes over the counts of orderly records (02, (viii))
+abbrev pub CheckPassesOver : Type 0
+CheckPassesOver = (net other : Net) → Orderly net → Orderly other → SameButCounts net other → checkSays net ≡ checkSays other
 
 -- arcs and walks of a net are arcs and walks of each net that it is contained in
 abbrev pub WalksGrow : Type 0

@@ -5,10 +5,10 @@ use Rattle.machine.proofs.registers.are_same.Statement.{statement}
 use Rattle.machine.proofs.registers.are_same.Tie as tie
 
 abbrev Inv-loop : tie.InvT-loop
-Inv-loop records p q k₀ k = k ≤ 1090
+Inv-loop records p q k₀ k = k ≤ 2114
 
 abbrev μ-loop : tie.MeasureT-loop
-μ-loop records p q k₀ k = 1090 - k
+μ-loop records p q k₀ k = 2114 - k
 
 loop-holds : tie.Need-loop-holds Inv-loop μ-loop
 loop-holds c = search needs

@@ -1,38 +1,26 @@
--- `insert_at` meets its contract: what the insertion leaves in the part, said of the whole array. Assumes nothing.
+-- `insert_at` meets its contract: what the shift leaves in the part, said of the whole array. Assumes nothing.
 use borrow.Author.Needs.{needs}
-use Prim.Native.Nat.{_*_, _+_, _-_}
-use native.Mathlib.Omega.{arith}
-use Rattle.net.specs.Limits.{sets}
-use Rattle.net.proofs.InsertLaws.{insert-part}
+use Rattle.net.proofs.InsertLaws.{shift-part}
 use Rattle.net.proofs.putting.insert_at.Statement.{statement}
 use Rattle.net.proofs.putting.insert_at.Tie as tie
 
-mul-from : tie.Need-mul-from
-mul-from c = search needs
+add-shift : tie.Need-add-shift
+add-shift c = search needs
 
-cast-from : tie.Need-cast-from
-cast-from c = search needs
+mul-shift : tie.Need-mul-shift
+mul-shift c = search needs
 
-add-to : tie.Need-add-to
-add-to c = search needs
+sub-shift : tie.Need-sub-shift
+sub-shift c = search needs
 
-add-to-2 : tie.Need-add-to-2
-add-to-2 c = search needs
+part-shift-start : tie.Need-part-shift-start
+part-shift-start c = search needs
 
-mul-insert : tie.Need-mul-insert
-mul-insert c = search needs
+part-shift-end : tie.Need-part-shift-end
+part-shift-end c = search needs
 
-sub-insert : tie.Need-sub-insert
-sub-insert c = search needs
-
-part-insert-start : tie.Need-part-insert-start
-part-insert-start c = search needs
-
-part-insert-end : tie.Need-part-insert-end
-part-insert-end c = search needs
-
-insert-requires : tie.Need-insert-requires
-insert-requires c κs = search needs
+shift-requires : tie.Need-shift-requires
+shift-requires c κs = search needs
 
 same-length : tie.Need-same-length
 same-length c = search needs
@@ -40,21 +28,17 @@ same-length c = search needs
 returns : tie.Need-returns
 returns c =
     let s = c .before .before .before .before .before in
-    let i = sets * s .args .a in
-    insert-part (s .args .masks .now) (c .before .before .insert .last .0) i (s .args .n) (s .args .m) (i + s .args .n + 1 - i) (omega arith) (omega arith) (c .before .before .insert .ensures)
+    shift-part (s .args .list .now) (c .before .before .shift .last .0) (s .args .at) (s .args .to) (s .args .x) (s .pre .0) (s .pre .1) (c .before .before .shift .ensures)
 
 pub insert-at-spec : {M : Type 1} → statement M
 insert-at-spec =
     tie.close
     (tie.spec
-    mul-from
-    cast-from
-    add-to
-    add-to-2
-    mul-insert
-    sub-insert
-    part-insert-start
-    part-insert-end
-    insert-requires
+    add-shift
+    mul-shift
+    sub-shift
+    part-shift-start
+    part-shift-end
+    shift-requires
     same-length
     returns)

@@ -1,40 +1,66 @@
 -- `put_side` meets its contract: the tests in the order of the definition, and the two arrays changed only after the
 -- last. Assumes nothing.
 use borrow.Author.Needs.{needs}
+use native.Mathlib.Omega.{arith}
+use Prim.Native.Nat.{_<_, _≤_}
 use mathlib.Core.Bool.{false}
 use mathlib.Core.Path.{_≡_, sym, _∙_}
-use borrow.Author.Tests.{eq-eqb, ne-eqb}
+use lib.ListN.{getD}
+use Rattle.net.specs.Limits.{sets}
 use Rattle.net.specs.Lists.{listed}
 use Rattle.net.specs.Sides.{sideIn}
-use Rattle.net.specs.Put.{misplaced, sideSays, grows, putMasks, putLengths}
+use Rattle.net.specs.Put.{misplaced}
+use Rattle.net.proofs.SideLaws.{side-at-most, sides-of-orderly}
+use Rattle.net.proofs.PutSideLaws.{place-in-side, stands-at-place}
+use Rattle.net.proofs.PlacedLaws.{done-misplaced, done-present, done-full, done-new, grown-there}
 use Rattle.net.proofs.putting.put_side.Statement.{statement}
 use Rattle.net.proofs.putting.put_side.Tie as tie
 
 placed : (c : tie.Else1) → let s = c .before .before .args in misplaced (s .empty) (s .a) (s .m) ≡ false
 placed c = sym (c .before .is-misplaced .ensures) ∙ c .if1 .left
 
-absent : (c : tie.Else2)
-    → let s = c .before .before .before .before .before .before .before .before .args in listed (s .m) (sideIn (s .masks .now) (s .lengths .now) (s .a)) ≡ false
-absent c = sym (c .before .on-side .ensures) ∙ c .if2 .left
+-- the call as it began
+abbrev began : tie.Else1 → tie.Start
+began c = c .before .before
+
+at-most : (c : tie.Start) → let s = c .args in getD (s .lengths .now) (s .a) 0 ≤ sets
+at-most c = let s = c .args in side-at-most (s .masks .now) (s .lengths .now) (s .empty) (c .pre .0) (s .a) (c .pre .1)
+
+-- whether the set stands at its place
+abbrev first : tie.After-stands-at → tie.Else1
+first c = c .before .before .before .before .before .before .before .before .before .before .before
+
+there : (c : tie.After-stands-at) → let s = began (first c) .args in c .stands-at .result ≡ listed (s .m) (sideIn (s .masks .now) (s .lengths .now) (s .a))
+there c =
+    let k = began (first c) in
+    let s = k .args in
+    c .stands-at .ensures ∙ stands-at-place (s .masks .now) (s .lengths .now) (s .empty) (s .a) (s .m) (k .pre .0) (k .pre .1) _ _ (c .before .before .before .place-on .ensures) (c .before .before .before .before .before .before .before .before .side-end .ensures)
 
 is-misplaced-requires : tie.Need-is-misplaced-requires
 is-misplaced-requires c κs = search needs
 
 returns : tie.Need-returns
-unfolding sideSays grows putMasks putLengths
 returns c =
-    let e = sym (c .before .is-misplaced .ensures) ∙ c .if1 .taken in
-    record { says = rw e; masks-are = rw e; lengths-are = rw e }
+    let s = c .before .before .args in
+    done-misplaced (s .masks .now) (s .lengths .now) (s .empty) (s .a) (s .m) (sym (c .before .is-misplaced .ensures) ∙ c .if1 .taken)
 
-on-side-requires : tie.Need-on-side-requires
-on-side-requires c κs = search needs
+side-end-requires : tie.Need-side-end-requires
+side-end-requires c κs = let k = began (c .before .before) in (k .pre .1, k .pre .0 .lengths-long, at-most k)
+
+place-on-requires : tie.Need-place-on-requires
+place-on-requires c κs =
+    let k = began (c .before .before .before .before .before .before .before) in
+    let s = k .args in
+    (sides-of-orderly (s .masks .now) (s .lengths .now) (s .empty) (k .pre .0), k .pre .1)
+
+stands-at-requires : tie.Need-stands-at-requires
+stands-at-requires c κs = let k = began (c .before .before .before .before .before .before .before .before .before .before) in omega (arith, c .before .before .before .before .before .before .before .side-end .ensures, at-most k, k .pre .0 .masks-long, k .pre .1)
 
 returns-2 : tie.Need-returns-2
-unfolding sideSays grows putMasks putLengths
 returns-2 c =
-    let e = placed (c .before .before .before .before .before .before) in
-    let t = sym (c .before .on-side .ensures) ∙ c .if2 .taken in
-    record { says = rw (e, t); masks-are = rw (e, t); lengths-are = rw (e, t) }
+    let k = began (first (c .before)) in
+    let s = k .args in
+    done-present (s .masks .now) (s .lengths .now) (s .empty) (s .a) (s .m) (placed (first (c .before))) (sym (there (c .before)) ∙ c .if2 .taken) _ (c .before .before .before .before .place-on .ensures)
 
 mul-n : tie.Need-mul-n
 mul-n c = search needs
@@ -43,18 +69,25 @@ element-copy-out-n : tie.Need-element-copy-out-n
 element-copy-out-n c = search needs
 
 returns-3 : tie.Need-returns-3
-unfolding sideSays grows putMasks putLengths
 returns-3 c =
-    let e = placed (c .before .before .before .before .before .before .before .before) in
-    let t = absent (c .before .before) in
-    let f = eq-eqb _ _ (c .if3 .taken) in
-    record { says = rw (e, t, f); masks-are = rw (e, t, f); lengths-are = rw (e, t, f) }
+    let d = c .before .before in
+    let s = began (first (d .before)) .args in
+    done-full (s .masks .now) (s .lengths .now) (s .empty) (s .a) (s .m) (placed (first (d .before))) (sym (there (d .before)) ∙ d .if2 .left) (c .if3 .taken)
+
+-- the side that isn't full has room
+room : (c : tie.Else3) → let s = began (first (c .before .before .before)) .args in getD (s .lengths .now) (s .a) 0 < sets
+room c = let k = began (first (c .before .before .before)) in let n = c .if3 .left in omega (arith, at-most k)
 
 insert-at-requires : tie.Need-insert-at-requires
-insert-at-requires c κs = search needs
+insert-at-requires c κs =
+    let k = began (c .before .before .before .before .before .before .before .before .before .before .before .before .before .before .before) in
+    let s = k .args in (
+      omega (arith, c .before .before .before .before .before .before .before .place-on .ensures, c .before .before .before .before .before .before .before .before .before .before .before .before .side-end .ensures, place-in-side (s .masks .now) (s .lengths .now) (s .empty) (s .a) (s .m) (k .pre .0) (k .pre .1)),
+      omega (arith, c .before .before .before .before .before .before .before .before .before .before .before .before .side-end .ensures, room (c .before), k .pre .0 .masks-long, k .pre .1),
+    )
 
 add-lengths : tie.Need-add-lengths
-add-lengths c = search needs
+add-lengths c = omega (arith, room (c .before .before))
 
 mul-lengths : tie.Need-mul-lengths
 mul-lengths c = search needs
@@ -63,12 +96,12 @@ element-write-lengths : tie.Need-element-write-lengths
 element-write-lengths c = search needs
 
 returns-4 : tie.Need-returns-4
-unfolding sideSays grows putMasks putLengths
 returns-4 c =
-    let e = placed (c .before .before .before .before .before .before .before .before .before .before) in
-    let t = absent (c .before .before .before .before) in
-    let f = ne-eqb _ _ (c .before .before .if3 .left) in
-    record { says = rw (e, t, f); masks-are = rw (e, t, f) (c .insert-at .ensures); lengths-are = rw (e, t, f) }
+    let d = c .before .before .before .before in
+    let k = began (first (d .before)) in
+    let s = k .args in
+    done-new (s .masks .now) (s .lengths .now) (s .empty) (s .a) (s .m) (placed (first (d .before))) (sym (there (d .before)) ∙ d .if2 .left) (c .before .before .if3 .left) _ (c .before .before .before .before .before .before .before .before .place-on .ensures) _
+    (c .insert-at .ensures ∙ grown-there (s .masks .now) (s .lengths .now) (s .empty) (s .a) (s .m) (k .pre .0) (k .pre .1) _ _ (c .before .before .before .before .before .before .before .before .place-on .ensures) (c .before .before .before .before .before .before .before .before .before .before .before .before .before .side-end .ensures) (room (c .before .before)))
 
 pub put-side-spec : {M : Type 1} → statement M
 put-side-spec =
@@ -76,7 +109,9 @@ put-side-spec =
     (tie.spec
     is-misplaced-requires
     returns
-    on-side-requires
+    side-end-requires
+    place-on-requires
+    stands-at-requires
     returns-2
     mul-n
     element-copy-out-n

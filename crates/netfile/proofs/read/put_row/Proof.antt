@@ -3,7 +3,7 @@ use mathlib.Core.Path.{refl}
 use borrow.Author.Needs.{needs}
 use denote.Ref.{now}
 use Rattle.net.specs.declared.Side.the-variants.{Input, Output}
-use Rattle.net.proofs.OrderlyLaws.{orderly-arrays}
+use Rattle.net.proofs.OrderlyLaws.{orderly-sides}
 use Rattle.net.specs.Sides.{netOf}
 use Rattle.netfile.proofs.PutRowLaws.{put-row-done}
 use Rattle.netfile.proofs.read.put_row.Statement.{statement}
@@ -22,8 +22,7 @@ put-side-requires c κs =
     let net = netOf (s .start) (s .end) (now (s .inputs)) (now (s .«input-len»)) (now (s .outputs)) (now (s .«output-len»)) in
     let g = c .before .before .before .before .before .row .given in
     let h = k .pre .1 (g .0 .0) (g .0 .1 .0) (g .0 .1 .1 .0) (g .1) in
-    let f = orderly-arrays net (k .pre .0) Input in
-    ((f .masks-long, f .lengths-long), (h, f .at-most (g .0 .1 .0) h))
+    (orderly-sides net (k .pre .0) Input, h)
 
 row-put-requires : tie.Need-row-put-requires
 row-put-requires c κs = search needs
@@ -38,8 +37,7 @@ put-side-requires-2 c κs =
     let net = netOf (s .start) (s .end) (now (s .inputs)) (now (s .«input-len»)) (now (s .outputs)) (now (s .«output-len»)) in
     let g = c .before .before .before .before .before .row .given in
     let h = k .pre .1 (g .0 .0) (g .0 .1 .0) (g .0 .1 .1 .0) (g .1) in
-    let f = orderly-arrays net (k .pre .0) Output in
-    ((f .masks-long, f .lengths-long), (h, f .at-most (g .0 .1 .0) h))
+    (orderly-sides net (k .pre .0) Output, h)
 
 row-put-requires-2 : tie.Need-row-put-requires-2
 row-put-requires-2 c κs = search needs

@@ -7,7 +7,7 @@ use denote.Ref.{now}
 use Rattle.text.specs.Inner.{nextLine}
 use Rattle.net.specs.Orderly.{endsOk}
 use Rattle.net.proofs.OrderlyLaws.{facts-ends}
-use Rattle.net.proofs.FreshLaws.{fresh-gives-orderly}
+use Rattle.net.proofs.FreshLaws.{fresh-gives-orderly, fresh-gives-uncounted}
 use Rattle.netfile.proofs.LineReadLaws.{end-is}
 use Rattle.net.proofs.FreshLaws.{fresh-given}
 use Rattle.netfile.proofs.FileLaws.{end-line}
@@ -42,7 +42,7 @@ next-line-requires : tie.Need-next-line-requires
 next-line-requires c κs = search needs
 
 read-rows-requires : tie.Need-read-rows-requires
-read-rows-requires c κs = (search needs, search needs, rw (c .before .fresh .ensures .gives) (fresh-gives-orderly _ _))
+read-rows-requires c κs = (search needs, search needs, rw (c .before .fresh .ensures .gives) (fresh-gives-orderly _ _), rw (c .before .fresh .ensures .gives) (fresh-gives-uncounted _ _))
 
 enum-known-line-2 : tie.Need-enum-known-line-2
 enum-known-line-2 c = search needs

@@ -1,7 +1,7 @@
--- `read_rows` meets its contract. The loop's invariant: the arrays are those of an orderly net, and what the rows say is what the
+-- `read_rows` meets its contract. The loop's invariant: the arrays are those of an orderly net without counts, and what the rows say is what the
 -- rows left say from that net on. Assumes nothing.
 use Prim.Native.Nat.{_+_, _-_, _≤_}
-use mathlib.Core.Path.{_≡_, refl, _∙_}
+use mathlib.Core.Path.{_≡_, refl, sym, ap, _∙_}
 use mathlib.Core.Bool.{true}
 use borrow.Author.Needs.{needs}
 use denote.Ref.{now}
@@ -10,6 +10,8 @@ use Rattle.text.specs.Lines.{lines}
 use Rattle.text.specs.Inner.{nextLine}
 use Rattle.net.specs.Sides.{netOf}
 use Rattle.net.specs.Orderly.{orderly}
+use Rattle.net.specs.declared.Net.{Net}
+use Rattle.net.proofs.UncountedLaws.{uncounted-orderly, uncounted-with}
 use Rattle.netfile.specs.NetFile.{readRows}
 use Rattle.netfile.proofs.LineReadLaws.{row-exactly}
 use Rattle.netfile.proofs.PutRowLaws.{row-orderly}
@@ -28,7 +30,9 @@ abbrev μ-loop : tie.MeasureT-loop
 μ-loop text at net inputs₀ input-len₀ outputs₀ output-len₀ i₀ line₀ inputs input-len outputs output-len i line = length text - i
 
 loop-holds : tie.Need-loop-holds Inv-loop μ-loop
-loop-holds c = (search needs, search needs, c .before .before .before .before .before .pre .2, refl)
+loop-holds c =
+    let k = c .before .before .before .before .before in
+    (search needs, search needs, uncounted-orderly (k .args .net) (k .pre .2), ap (λ (n : Net). readRows 4 n (lines (drop (k .args .at) (now (k .args .text))))) (sym (k .pre .3)))
 
 line-end-requires : tie.Need-line-end-requires Inv-loop μ-loop
 line-end-requires c κs = search needs
@@ -87,7 +91,7 @@ returns-2 c =
     let a = c .before .before .before .before .before .before .before .args in
     let net = a .net in
     let l = c .before .loop in
-    rw (l .inv .3, rows-end (now (a .text)) (l .i) (l .line) (netOf (net .start) (net .end) (l .inputs) (l .input-len) (l .outputs) (l .output-len)) (search needs)) (record { says = refl; gives = refl })
+    rw (l .inv .3, rows-end (now (a .text)) (l .i) (l .line) (netOf (net .start) (net .end) (l .inputs) (l .input-len) (l .outputs) (l .output-len)) (search needs)) (record { says = refl; gives = uncounted-with net (c .before .before .before .before .before .before .before .pre .3) _ _ _ _ })
 
 pub read-rows-spec : {M : Type 1} → statement M
 read-rows-spec =

@@ -6,7 +6,9 @@ use borrow.Author.Needs.{needs}
 use borrow.Author.Tests.{not-true, not-false}
 use Rattle.obligations.specs.Trace.{shaped}
 use Rattle.obligations.specs.Sequence.{bindings, at}
+use Rattle.net.proofs.UncountedLaws.{uncounted-orderly}
 use Rattle.walks.proofs.CheckLaws.{Clear, answer-clear}
+use Rattle.walks.proofs.UncountedLaws.{pass-says-uncounted}
 use Rattle.sequences.proofs.WordLaws.{shaped-same}
 use Rattle.sequences.proofs.JudgeLaws.{judged-not-passing, judged-ends, judged-missing, judged-run}
 use Rattle.sequences.proofs.judging.judge_positions.Statement.{statement}
@@ -21,7 +23,7 @@ abbrev start-at : tie.After-enum-told → tie.Start
 start-at c = start-of (c .before .before)
 
 clear-here : (c : tie.After-enum-told) → Clear (start-at c .args .t1)
-clear-here c = let k = c .before .before .check-lent in answer-clear (start-at c .args .t1) (k .result) (k .ensures) _ (c .enum-told .given .1)
+clear-here c = let k = c .before .before .check-lent in answer-clear (start-at c .args .t1) (k .result) (k .ensures ∙ pass-says-uncounted _) _ (c .enum-told .given .1)
 
 shaped-here : (c : tie.Else1)
     → let g = start-at (c .before .before) .args in
@@ -34,7 +36,7 @@ shaped-here c =
 -- ---- the needs
 
 check-lent-requires : tie.Need-check-lent-requires
-check-lent-requires c κs = search needs
+check-lent-requires c κs = uncounted-orderly _ (c .before .before .before .before .before .before .pre .0)
 
 enum-known-checked : tie.Need-enum-known-checked
 enum-known-checked c = search needs
@@ -43,7 +45,7 @@ returns : tie.Need-returns
 returns c =
     let g = start-of (c .before .before .before) .args in
     let k = c .before .before .before .check-lent in
-    judged-not-passing (g .t1) (bindings (g .words .now)) (k .result) (k .ensures) _ _ (c .before .checked .given .1)
+    judged-not-passing (g .t1) (bindings (g .words .now)) (k .result) (k .ensures ∙ pass-says-uncounted _) _ _ (c .before .checked .given .1)
 
 enum-told : tie.Need-enum-told
 enum-told c = search needs
