@@ -2,6 +2,7 @@
 
 ACTIVITIES = 32  # Activities are numbers 0 to 31; a set of them is a mask of so many bits.
 SETS = 16  # The most sets on a side of an activity.
+USES = 2**32 - 1  # The highest count of a set's uses.
 POSITIONS = 96  # The most positions of a sequence or trace; the words that a row's buffer needs.
 NET_BYTES = 131_072
 LOG_BYTES = 524_288

@@ -24,13 +24,23 @@ def out_place(activity, place=0):
     return in_place(ACTIVITIES + activity, place)
 
 
-WORDS = out_place(ACTIVITIES)
+def in_count(activity, place=0):
+    """The word that has the count of uses of the set at a place of the activity's input list."""
+    return in_place(2 * ACTIVITIES + activity, place)
 
 
-def record(start, end, inputs, outputs):
+def out_count(activity, place=0):
+    return in_count(ACTIVITIES + activity, place)
+
+
+WORDS = out_count(ACTIVITIES)
+
+
+def record(start, end, inputs, outputs, counts=()):
     """All words of the orderly record with these lists, and with the two empty sets.
 
-    The lists are given by activity, each ascending.
+    The lists are given by activity, each ascending. The counts are pairs of a word and what it
+    holds; all others are 0.
     """
     words = [0] * WORDS
     words[START] = start
@@ -43,6 +53,8 @@ def record(start, end, inputs, outputs):
     for activity, sets in outputs.items():
         words[out_length(activity)] = len(sets)
         words[out_place(activity) : out_place(activity, len(sets))] = sets
+    for word, count in counts:
+        words[word] = count
     return words
 
 

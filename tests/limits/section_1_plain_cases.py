@@ -1,10 +1,12 @@
 """Section 1: every call once, with an answer that hangs on no limit."""
 
 from bindings import FIG_4
-from calls import IN, OUT, peek, put_new, row, same
+from calls import IN, OUT, counted_side, peek, put_new, row, same, same_sets, set_counts
 from files import F_FILE, log_file
 from limits import ACTIVITIES, LAST, SESSIONS
-from record import WORDS, fresh_record, in_length, in_place, out_length, out_place, record
+from record import (
+    WORDS, fresh_record, in_count, in_length, in_place, out_count, out_length, out_place, record,
+)
 from script import note, ok, refused, say, section, shown, text
 
 F_RECORD = record(
@@ -47,10 +49,11 @@ def fresh_nets():
 
 
 def peek_fresh(start, end):
-    """Register 0 holds the fresh net: first its start, end and lengths, then its lists."""
+    """Register 0 holds the fresh net: its start, end and lengths, its lists, its counts."""
     fresh = fresh_record(start, end)
     peek(0, 0, in_place(0), fresh)
-    peek(0, in_place(0), WORDS - in_place(0), fresh)
+    peek(0, in_place(0), in_count(0) - in_place(0), fresh)
+    peek(0, in_count(0), WORDS - in_count(0), fresh)
 
 
 def putting():
@@ -79,7 +82,7 @@ def putting():
 
 def words_of_f():
     note("The words of F: start and end, the lengths of the lists, then the lists in strictly "
-         "ascending mask order.")
+         "ascending mask order, then the counts, all 0.")
     of_0_to_3 = in_place(4) - in_place(0)
     of_the_others = in_place(ACTIVITIES) - in_place(4)
     peek(0, 0, 2, F_RECORD)
@@ -89,6 +92,7 @@ def words_of_f():
     peek(0, in_place(4), of_the_others, F_RECORD)
     peek(0, out_place(0), of_0_to_3, F_RECORD)
     peek(0, out_place(4), of_the_others, F_RECORD)
+    peek(0, in_count(0), WORDS - in_count(0), F_RECORD)
 
     note("Poke and copy are no calls.")
     ok("copy 2 0", f"poke 2 {in_place(1)} 9")
@@ -163,9 +167,19 @@ def learning():
     note("The second branch brings four more.")
     say("learn 1 0 0 4 2 1 8 3 4 0", "ok 4")
 
-    note("Both branches at once bring only the set 6 on two sides; the net is F then.")
+    note("Both branches at once bring only the set 6 on two sides; the net has the sets of F then.")
     say("learn 1 0 0 6 1 1 8 2 1 8 3 6 0", "ok 2")
-    same(1, 0)
+    same_sets(1, 0)
+    say("same 1 0", "ok 0")
+
+    note("It is F with the uses of four sequences: the first one twice, the others once. 0 and 3 "
+         "occur four times, 1 three times and 2 twice.")
+    ok("copy 2 0")
+    set_counts(2, (in_count(0), 4), (in_count(1), 3), (in_count(2), 2),
+               (in_count(3, 0), 2), (in_count(3, 1), 1), (in_count(3, 2), 1),
+               (out_count(0, 0), 2), (out_count(0, 1), 1), (out_count(0, 2), 1),
+               (out_count(1), 3), (out_count(2), 2), (out_count(3), 4))
+    same(1, 2)
 
 
 def following():
@@ -175,6 +189,7 @@ def following():
     say("follow 1 0 1 3", "ok 0")
     ok("fresh 3 0 3")
     say("learn 3 0 0 2 1 1 8 3 2 0", "ok 4")
+    say("learn 3 0 0 2 1 1 8 3 2 0", "ok 0")
     same(1, 3)
 
     note("Follow of 0 1 2 3 makes (0,0,2)(1,1,4)(2,2,8)(3,4,0); of its six sets 2 on the output "
@@ -208,12 +223,18 @@ def marked_examples():
     ok("fresh 2 0 3")
     same(1, 2)
 
-    note("Fig. 4 of document 003 with a to e as 0 to 4: 12 new, and again 0.")
+    note("Fig. 4 of document 003 with a to e as 0 to 4: 12 new, and again 0. The sets are the "
+         "same then, and only their counts have grown: 2 and 8 are used twice by c.")
     ok("fresh 1 0 4")
     say(f"learn 1 {FIG_4}", "ok 12")
+    counted_side(1, IN, 2, {2: 2})
+    counted_side(1, OUT, 2, {8: 2})
     ok("copy 2 1")
     say(f"learn 1 {FIG_4}", "ok 0")
-    same(1, 2)
+    same_sets(1, 2)
+    say("same 1 2", "ok 0")
+    counted_side(1, IN, 2, {2: 4})
+    counted_side(1, OUT, 2, {8: 4})
     ok(f"judge 1 {FIG_4}")
 
     note("Its arcs are (0, 1), (1, 1), (1, 2), (1, 3), (2, 3), (3, 3) and (3, 4).")

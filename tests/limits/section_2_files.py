@@ -1,7 +1,7 @@
 """The part of section 2 on files: their bytes, the writer's buffer, the numbers of a net file."""
 
 from bindings import words
-from calls import read_f, row, same
+from calls import IN, OUT, put_new, read_f, row, same
 from files import F_FILE, log_file, net_file
 from limits import (
     ACTIVITIES, ALL, BUFFER_BYTES, BUFFER_WORDS, DIGITS, LAST, LOG_BYTES, MAX_32, NET_BYTES,
@@ -41,7 +41,10 @@ def bytes_of_a_net_file():
          f"{eights:,} rows of 8 bytes in,1,0 and one in,3,1 of 8.")
     text(net_of_size(NET_BYTES))
     ok("readnet 0", "fresh 1 0 3")
-    say("follow 1 0 1 3", "ok 4")
+    put_new(1, OUT, 0, 2)
+    put_new(1, IN, 1, 1)
+    put_new(1, OUT, 1, 8)
+    put_new(1, IN, 3, 2)
     same(0, 1)
 
     note(f"3: a net file of {NET_BYTES + 1:,} bytes exceeds its bytes, although every line of it "

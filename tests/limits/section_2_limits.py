@@ -1,6 +1,7 @@
 """Section 2: every limit of limits.py, with what is one below it, at it and one above it."""
 
 import section_2_activities
+import section_2_counts
 import section_2_files
 import section_2_log_rows
 import section_2_positions
@@ -13,5 +14,6 @@ def write():
     section_2_activities.write()
     section_2_sets.write()
     section_2_positions.write()
+    section_2_counts.write()
     section_2_log_rows.write()
     section_2_files.write()

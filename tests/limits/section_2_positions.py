@@ -1,7 +1,7 @@
 """The part of section 2 on sequences and traces: their length, and what a replay is given."""
 
 from bindings import loop, loop_trace, loop_trials
-from calls import OUT, disorder, put_new, read_f, same
+from calls import IN, OUT, counted_side, disorder, put_new, read_f, same, same_sets
 from limits import BUFFER_WORDS, LINE_NUMBERS, MAX_64, NO_ACTIVITY, POSITIONS
 from script import note, ok, refused, say
 
@@ -27,12 +27,12 @@ def positions_learned_and_judged():
          "the input side of 1, 2 and 8 on its output side, 2 on the input side of 3.")
     ok("fresh 0 0 3")
     say(f"learn 0 {loop(below)}", "ok 6")
-    ok("copy 1 0")
 
     note(f"{most} positions are the most; the sets are the same.")
     say(f"learn 0 {loop(most)}", "ok 0")
 
     note(f"3: this sequence has {above} positions.")
+    ok("copy 1 0")
     refused(3, 0, f"learn 0 {loop(above)}")
     same(0, 1)
 
@@ -42,7 +42,7 @@ def positions_learned_and_judged():
     ok("fresh 2 0 3")
     same(0, 2)
     say(f"learn 0 {loop(most)}", "ok 6")
-    same(0, 1)
+    same_sets(0, 1)
 
     note(f"Judge: {below} and {most} positions are judged, {above} are not.")
     say("check 0", "ok 3")
@@ -57,13 +57,14 @@ def positions_followed():
          "are too many.")
     ok("fresh 2 0 3")
     say(f"follow 2 {loop_trace(below)}", "ok 6")
-    same(2, 1)
+    same_sets(2, 1)
     say(f"follow 2 {loop_trace(most)}", "ok 0")
+    same(2, 1)
     refused(3, 0, f"follow 2 {loop_trace(above)}")
     same(2, 1)
     ok("fresh 2 0 3")
     say(f"follow 2 {loop_trace(most)}", "ok 6")
-    same(2, 1)
+    same(2, 0)
 
 
 def positions_replayed():
@@ -89,6 +90,7 @@ def positions_replayed():
 
 def words_of_a_sequence():
     note("3: one, two, four and five words aren't a multiple of three.")
+    ok("copy 1 0")
     for call in "judge", "learn":
         refused(3, 0, f"{call} 0 0", f"{call} 0 0 0", f"{call} 0 0 0 2 1", f"{call} 0 0 0 2 1 1")
     same(0, 1)
@@ -116,8 +118,8 @@ def every_number_of_words():
     same(0, 1)
 
     most = LINE_NUMBERS - 1
-    note(f"3: far more words, on both sides of 512, and up to {most}, the most that a line has room "
-         "for.")
+    note(f"3: far more words, on both sides of 512, and up to {most}, the most that a line has "
+         "room for.")
     for call in "judge", "learn":
         for words in 510, 511, 512, 513, most - 2, most - 1, most:
             refused(3, 0, f"{call} 0{' 0' * words}")
@@ -136,7 +138,13 @@ def every_number_of_entries():
 
 def every_number_of_positions():
     note(f"Every number of positions from 5 to {POSITIONS} is learned, followed, judged and "
-         "replayed; the sets are the same for all.")
+         "replayed in the net of the loop; the sets are the same for all.")
+    ok("fresh 0 0 3")
+    put_new(0, OUT, 0, 2)
+    put_new(0, IN, 1, 1, 2)
+    put_new(0, OUT, 1, 2, 8)
+    put_new(0, IN, 3, 2)
+    same_sets(0, 1)
     for positions in range(5, POSITIONS + 1):
         say(f"learn 0 {loop(positions)}", "ok 0")
         say(f"follow 0 {loop_trace(positions)}", "ok 0")
@@ -144,7 +152,18 @@ def every_number_of_positions():
         trials = loop_trials(positions)
         say(f"replay 0 {trials} {3 * positions} {loop_trace(positions)}",
             f"found {trials} {loop(positions)}")
-    same(0, 1)
+    same_sets(0, 1)
+
+    sequences = 2 * (POSITIONS - 4)
+    rounds = 2 * sum(positions - 3 for positions in range(5, POSITIONS + 1))
+    note(f"{sequences} sequences were learned or followed. On either side of 1 one set was used by "
+         "each of them once, and the other at all but three positions.")
+    counted_side(0, IN, 0, {0: sequences})
+    counted_side(0, OUT, 0, {2: sequences})
+    counted_side(0, IN, 1, {1: sequences, 2: rounds})
+    counted_side(0, OUT, 1, {2: rounds, 8: sequences})
+    counted_side(0, IN, 3, {2: sequences})
+    counted_side(0, OUT, 3, {0: sequences})
 
 
 def buffer_of_replay():

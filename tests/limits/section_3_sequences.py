@@ -4,8 +4,9 @@ A lower number comes first, wherever in the sequence or trace it holds; 19 comes
 """
 
 from bindings import fillers, loop, loop_trace, repeated
-from calls import IN, OUT, disorder, disorderly_f, put_new, same
-from limits import BUFFER_WORDS, LAST, MAX_32, NO_ACTIVITY, POSITIONS, SETS
+from calls import IN, OUT, disorder, disorderly_f, f_at_the_top, put_new, same, set_counts
+from limits import BUFFER_WORDS, LAST, MAX_32, NO_ACTIVITY, POSITIONS, SETS, USES
+from record import in_count, out_count
 from script import note, ok, refused, say
 
 
@@ -23,6 +24,10 @@ def write():
     of_learn_on_a_full_side()
     of_follow_on_a_full_side()
     of_full_sides_that_are_disorderly()
+    of_learn_on_counts()
+    of_follow_on_counts()
+    of_full_sides_and_counts()
+    of_a_full_side_with_counts()
     of_follow()
     of_replay()
     of_replay_on_walks()
@@ -297,6 +302,93 @@ def of_full_sides_that_are_disorderly():
     ok("copy 2 0")
     refused(2, 0, f"learn 0 {VALID}", "follow 0 0 1 3")
     same(0, 2)
+
+
+def of_learn_on_counts():
+    note("Learn, 21: every set of F has the highest count. The numbers before 21 come first: 3, 4, "
+         "7, 9, 10, 11.")
+    f_at_the_top(0)
+    ok("copy 2 0")
+    refused(21, 0, f"learn 0 {VALID}", "learn 0 0 0 6 1 1 8 2 1 8 3 6 0")
+    refused(3, 0, "learn 0 0 0 2 1 1 8 3 2", f"learn 0 {long_loop()}")
+    refused(4, 3, f"learn 0 0 0 2 1 1 8 {NO_ACTIVITY} 2 0")
+    refused(7, 0, "learn 0 0 0 2 1 1 16 4 2 0", "learn 0", "learn 0 1 1 8 3 2 0")
+    refused(9, 3, "learn 0 0 0 2 1 1 8 3 2 1")
+    refused(10, 3, "learn 0 0 0 2 1 1 8 3 4 0")
+    refused(11, 0, "learn 0 0 0 6 1 1 8 3 2 0")
+    same(0, 2)
+
+    note("Learn, 21: also where some of the sequence's sets are new, which aren't added then. 4 is "
+         "new on the output side of 1, 2 on the input side of 2.")
+    refused(21, 0, "learn 0 0 0 2 1 1 4 2 2 8 3 4 0")
+    same(0, 2)
+
+
+def of_follow_on_counts():
+    note("Follow, 21: the same net, and 7, 4 and 3 before 21.")
+    refused(21, 0, "follow 0 0 1 3", "follow 0 0 2 3", "follow 0 0 1 2 3")
+    refused(7, 0, "follow 0 0 1", "follow 0 1 3")
+    refused(4, 2, f"follow 0 0 {NO_ACTIVITY} 3")
+    refused(3, 0, f"follow 0 {loop_trace(POSITIONS + 1)}")
+    same(0, 2)
+
+    note("Learn and follow, 2 before 21.")
+    disorder(0)
+    ok("copy 2 0")
+    refused(2, 0, f"learn 0 {VALID}", "follow 0 0 1 3")
+    same(0, 2)
+
+
+BY_1_AND_2 = "0 0 2 1 1 4 2 2 8 3 4 0"  # It adds 4 to the outputs of 1 and 2 to the inputs of 2.
+
+
+def of_full_sides_and_counts():
+    note("Learn and follow, 12 before 21, wherever they are. The output side of 1 is full, so 4 "
+         "doesn't fit at position 2. One count is the highest: of the start's empty set, which "
+         "comes first; of X or Y of a position before, of the same one, of the last but one and "
+         "the last.")
+    ok("copy 0 1")
+    put_new(0, OUT, 1, *fillers(SETS - 1))  # F has 8 there.
+    ok("copy 3 0")
+    for count in (in_count(0), out_count(0, 0), in_count(1), out_count(2), in_count(3, 1),
+                  out_count(3)):
+        ok("copy 0 3")
+        set_counts(0, (count, USES))
+        ok("copy 2 0")
+        refused(12, 0, f"learn 0 {BY_1_AND_2}", "follow 0 0 1 2 3")
+        same(0, 2)
+
+    note("The same with a full input side: 2 doesn't fit on that of 2, at position 3.")
+    ok("copy 0 1")
+    put_new(0, IN, 2, *fillers(SETS - 1))  # F has 1 there.
+    ok("copy 3 0")
+    for count in in_count(0), out_count(0, 0), in_count(1), out_count(2), out_count(3):
+        ok("copy 0 3")
+        set_counts(0, (count, USES))
+        ok("copy 2 0")
+        refused(12, 0, f"learn 0 {BY_1_AND_2}", "follow 0 0 1 2 3")
+        same(0, 2)
+
+    note("Where the full side has the set, the count alone is in the way.")
+    refused(21, 0, "learn 0 0 0 4 2 1 8 3 4 0")
+    set_counts(0, (out_count(3), USES - 1))
+    say("learn 0 0 0 4 2 1 8 3 4 0", "ok 0")
+
+
+def of_a_full_side_with_counts():
+    note("Learn and follow, 12 before 21, both on one side: on the full output side of 1 one of 2 "
+         "and 8 is missing and the other has the highest count. The loop uses 2 at positions 2 and "
+         "3 and 8 at position 4.")
+    for there in 2, 8:
+        ok("fresh 0 0 3")
+        put_new(0, OUT, 1, there, *fillers(SETS - 1))
+        set_counts(0, (out_count(1), USES))
+        ok("copy 2 0")
+        refused(12, 0, f"learn 0 {loop(5)}", f"follow 0 {loop_trace(5)}")
+        same(0, 2)
+
+    note("Register 3 is the fresh net of 0 and 1 again.")
+    ok("fresh 3 0 1")
 
 
 def of_follow():

@@ -2,12 +2,14 @@
 
 Paper 01: start and end differ and are activities; a side has at most SETS sets, strictly ascending;
 the start's input side and the end's output side hold just the empty set, and no other side holds
-it; unused places are zero.
+it; unused places are zero. 02, (viii): and so are the counts of unused places.
 """
 
-from calls import OUT, put_new, read_f, same
-from limits import ALL, BUFFER_BYTES, LAST, MAX_32, NO_ACTIVITY, SETS
-from record import END, START, WORDS, in_length, in_place, out_length, out_place
+from calls import OUT, f_at_the_top, put_new, read_f, same, same_sets
+from limits import ACTIVITIES, ALL, BUFFER_BYTES, LAST, MAX_32, NO_ACTIVITY, SETS, USES
+from record import (
+    END, START, WORDS, in_count, in_length, in_place, out_count, out_length, out_place,
+)
 from script import note, ok, refused, say, section, shown, text
 from wording import spelled
 
@@ -27,10 +29,12 @@ def write():
     for change in START_AND_END:
         disorderly(*change)
     a_length_too_high()
-    for change in LENGTHS + ORDER + UNUSED_PLACES + START_AND_END_SIDES + EMPTY_SETS:
+    for change in LENGTHS + ORDER + UNUSED_PLACES + START_AND_END_SIDES + EMPTY_SETS + COUNTS:
         disorderly(*change)
+    counts_of_every_side()
     every_call_refuses()
     full_sides()
+    counts_of_used_places()
     made_by_hand()
 
 
@@ -129,7 +133,7 @@ UNUSED_PLACES = (
      F, (in_place(9), 1)),
     (f"The last place of a side without sets isn't zero, the input side of {LAST}.",
      F, (in_place(LAST, SETS - 1), 1)),
-    (f"The last place of the record isn't zero, on the output side of {LAST}.",
+    (f"The last place of all isn't zero, on the output side of {LAST}.",
      F, (out_place(LAST, SETS - 1), 1)),
     (f"The first place of the output side of {LAST} isn't zero.",
      F, (out_place(LAST), HIGH_BIT)),
@@ -169,6 +173,45 @@ EMPTY_SETS = (
      FRESH, (START, 1), (END, 0)),
 )
 
+COUNTS = (
+    ("A count right after those of the three sets on the input side of 3.", F, (in_count(3, 3), 1)),
+    ("A count right after those of the three sets on the output side of 0.",
+     F, (out_count(0, 3), 1)),
+    ("The last count of the input side of 3.", F, (in_count(3, SETS - 1), USES)),
+    ("The last count of the output side of 0.", F, (out_count(0, SETS - 1), HIGH_BIT)),
+    ("The first count of a side without sets, the input side of 9.", F, (in_count(9), 1)),
+    ("The first count of a side without sets, the output side of 9.", F, (out_count(9), 1)),
+    ("The second count of the start's input side; the first is the empty set's.",
+     F, (in_count(0, 1), 1)),
+    ("The second count of the end's output side; the first is the empty set's.",
+     F, (out_count(3, 1), 1)),
+    ("A count on the output side of 0 in the fresh net of 0 and 1, where only 1 has a set.",
+     FRESH, (out_count(0), 1)),
+    ("A count on the input side of 1 in the fresh net of 0 and 1, where only 0 has a set.",
+     FRESH, (in_count(1), 1)),
+    ("The list of the input side of 3 is cut to two sets, and the third's count is left.",
+     F, (in_length(3), 2), (in_place(3, 2), 0), (in_count(3, 2), 1)),
+    ("The set of the output side of 1 is taken away, and its count is left.",
+     F, (out_length(1), 0), (out_place(1), 0), (out_count(1), 1)),
+    ("The counts of the used places are no fault, but one behind them is.",
+     F, (in_count(3, 0), 5), (in_count(3, 1), 6), (in_count(3, 2), 7), (in_count(3, 3), 8)),
+)
+
+
+def counts_of_every_side():
+    note("The first and the last unused count of every side, of which each alone is a fault. F has "
+         "three sets on the output side of 0 and on the input side of 3, one on the other sides "
+         "of 0 to 3, and none on those of the others.")
+    ok(f"copy 0 {F}")
+    for activity in range(ACTIVITIES):
+        for count, three in (in_count, 3), (out_count, 0):
+            sets = 3 if activity == three else 1 if activity <= 3 else 0
+            for place in sets, SETS - 1:
+                ok(f"poke 0 {count(activity, place)} 1")
+                refused(2, 0, "check 0")
+                ok(f"poke 0 {count(activity, place)} 0")
+    same(0, F)
+
 
 def every_call_refuses():
     note("Each call that is given a net refuses such records by 2, and put, learn and follow give "
@@ -179,7 +222,12 @@ def every_call_refuses():
         (f"A length is {SETS + 1}.", (in_length(3), SETS + 1)),
         (f"A length is {MAX_32}.", (out_length(2), MAX_32)),
         ("A list has an equal pair.", (in_place(3, 2), 4)),
-        ("The last place of the record isn't zero.", (WORDS - 1, 1)),
+        ("The last place isn't zero.", (out_place(LAST, SETS - 1), 1)),
+        ("An unused place of the output side of 0 has a count.", (out_count(0, 3), 1)),
+        ("An unused place of the input side of 3 has a count.", (in_count(3, SETS - 1), USES)),
+        ("The second place of the start's input side has a count.", (in_count(0, 1), 1)),
+        ("The first place of a side without sets has a count.", (in_count(4), HIGH_BIT)),
+        ("The last word of the record, a count, isn't zero.", (WORDS - 1, 1)),
         ("The start's input side is empty.", (in_length(0), 0)),
         ("The end's output side holds the empty set and another.",
          (out_length(3), 2), (out_place(3, 1), ALL)),
@@ -231,16 +279,20 @@ def full_sides():
     refused(12, 0, f"put 0 0 {LAST} {SETS}")
     say(f"put 0 0 {LAST} {ALL}", "ok 0")
     say(f"put 0 0 {LAST} {lower[-1]}", "ok 0")
+    same(0, 2)
     say("learn 0 0 0 2 1 1 8 3 2 0", "ok 0")
     say("follow 0 0 1 3", "ok 0")
-    same(0, 2)
+    same_sets(0, 2)
 
     lowest = ALL - (SETS - 1)
-    note(f"{spelled(SETS).capitalize()} sets on the output side of {LAST}, the last places of the "
-         f"record, from {lowest} up to {ALL}.")
+    note(f"{spelled(SETS).capitalize()} sets on the output side of {LAST}, the last places for "
+         f"sets, from {lowest} up to {ALL}; then with a count at each.")
     ok(f"copy 0 {F}")
     poke((out_place(LAST, place), lowest + place) for place in range(SETS))
     poke([(out_length(LAST), SETS)])
+    refused(6, 4, "check 0")
+    say("contained 0 0", "ok 1")
+    poke((out_count(LAST, place), USES - place) for place in range(SETS))
     refused(6, 4, "check 0")
     say("contained 0 0", "ok 1")
 
@@ -251,6 +303,25 @@ def full_sides():
     say("contained 0 0", "ok 1")
     put_new(0, OUT, 1, 8)
     say(f"peek 0 {out_place(1)} 4", f"words 8 {HIGH_BIT - 1} {HIGH_BIT} 0")
+
+
+def counts_of_used_places():
+    note(f"A used place may have any count up to {USES}, that of the two empty sets too.")
+    f_at_the_top(0)
+    say("check 0", "ok 4")
+    same_sets(0, F)
+
+    note("Cut to two sets the input side of 3 is orderly, if the third's count is 0.")
+    poke([(in_length(3), 2), (in_place(3, 2), 0)])
+    refused(2, 0, "check 0")
+    poke([(in_count(3, 2), 0)])
+    say("check 0", "ok 4")
+
+    note("In a fresh net the two empty sets may have counts, and no other place.")
+    ok(f"copy 0 {FRESH}")
+    poke([(in_count(0), 1), (out_count(1), USES)])
+    refused(6, 0, "check 0")
+    same_sets(0, FRESH)
 
 
 def made_by_hand():

@@ -1,8 +1,9 @@
 """Section 6: judge, learn and follow, position by position."""
 
+import section_6_counts
 import section_6_peaks
 from bindings import FIG_4, mask
-from calls import IN, OUT, put_new, read_f, same
+from calls import IN, OUT, put_new, read_f, same, same_sets
 from limits import ACTIVITIES, ALL, LAST
 from record import in_length, in_place, out_length, out_place
 from script import note, ok, refused, say, section
@@ -25,6 +26,7 @@ def write():
     all_activities_at_once()
     followed()
     section_6_peaks.write()
+    section_6_counts.write()
 
 
 def valid_in_f():
@@ -139,7 +141,7 @@ def counts_and_not_flags():
     say(f"learn 2 {FIG_4}", "ok 12")
     ok("copy 3 2")
     say(f"learn 2 {FIG_4}", "ok 0")
-    same(2, 3)
+    same_sets(2, 3)
     ok(f"judge 2 {FIG_4}")
 
     note("Its lists: 2 on the output side of 0; 1, 2 and 6, 12 on the sides of 1; 2 and 8 of 2; "

@@ -1,8 +1,8 @@
 """The part of section 8 on net files as they are written, and read back."""
 
 from bindings import FIG_4, mask, words
-from calls import IN, OUT, put_new, same
-from files import net_file
+from calls import IN, OUT, f_at_the_top, no_counts, put_new, read_f, same, same_sets
+from files import F_FILE, net_file
 from limits import ACTIVITIES, ALL, BUFFER_BYTES, LAST
 from script import note, ok, refused, say, shown, text
 
@@ -13,12 +13,20 @@ def write():
     numbers_of_two_digits()
     longest_row()
     net_of_fig_4()
+    net_with_counts()
 
 
 def read_back():
     """The text written is read as the net in register 0."""
     ok("readnet 2")
     same(0, 2)
+
+
+def read_back_without_counts():
+    """The text written is read as the net in register 0, whose sets have counts, with counts 0."""
+    ok("readnet 2")
+    same_sets(0, 2)
+    no_counts(2)
 
 
 def order_of_the_rows():
@@ -68,7 +76,7 @@ def numbers_of_two_digits():
     say("writenet 0 1000", "ok 85")
     shown(net_file(start, end, f"in,10,{start}", f"out,10,{end}", f"in,{end},10",
                    f"out,{start},10"))
-    read_back()
+    read_back_without_counts()
 
 
 def longest_row():
@@ -96,4 +104,26 @@ def net_of_fig_4():
         "in,3,1 2", "in,3,2 3", "out,3,3", "out,3,4",
         "in,4,3",
     ))
-    read_back()
+    read_back_without_counts()
+
+
+def net_with_counts():
+    note("A net file carries no counts: F with the highest count for every set is written as F is, "
+         "and read back as F. What was counted in the register that is read into is gone.")
+    read_f(1)
+    f_at_the_top(0)
+    text("nothing of this stays")
+    say(f"writenet 0 {len(F_FILE)}", f"ok {len(F_FILE)}")
+    shown(F_FILE)
+    read_back_without_counts()
+    same(2, 1)
+    ok("readnet 0")
+    same(0, 1)
+
+    note("A refused reading returns the fresh net of 0 and 1, whose counts are 0.")
+    f_at_the_top(0)
+    text("no net")
+    refused(13, 1, "readnet 0")
+    no_counts(0)
+    ok("fresh 2 0 1")
+    same(0, 2)
