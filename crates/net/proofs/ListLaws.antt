@@ -5,14 +5,15 @@ use native.Mathlib.Nat.{le-refl, not-suc-le-zero, sub-zero, zero-sub, suc-sub-su
 use native.Mathlib.Numerals.{add-one}
 use native.Mathlib.Omega.{arith}
 use mathlib.Core.Path.{_≡_, refl, sym, ap, _∙_}
-use mathlib.Core.Bool.{true, false, _||_}
+use mathlib.Core.Bool.{true, false, _&&_, _||_, and-assoc}
 use mathlib.Core.Logic.{_⊎_, inl, inr, ⊎-elim}
 use mathlib.Core.List.{List, [], _∷_, _++_}
+use lib.Bits.{bitOr, or-add-and, and-le-l, and-le-r}
 use lib.Dec.{ltb, eqb}
 use lib.ListN.{length, take, drop, getD, length-take, length-drop, drop-of-length-le}
 use lib.Seq.{take-all, take-nil, take-append-add, length-take-le, getD-take, getD-drop, drop-cons}
 use borrow.Author.Tests.{ltb-true, eqb-true, lt-ltb, le-ltb, eq-eqb, ne-eqb}
-use Rattle.obligations.proofs.BoolLaws.{and-left, and-right, and-both, or-right, or-cases, false-not-true}
+use Rattle.obligations.proofs.BoolLaws.{and-left, and-right, and-both, same-test, or-right, or-cases, false-not-true}
 use Rattle.net.specs.Lists.{listed, allListed, ascendsAbove, zeros, blank}
 
 -- ---- parts of a list
@@ -141,13 +142,17 @@ ascends-not-listed p q (x ∷ xs) k h =
 
 -- ---- zeros
 
-pub zeros-stop : (i : ℕ) (l : List ℕ) → i < length l → (getD l i 0 ≡ 0 → ⊥) → zeros (drop i l) ≡ false
-unfolding zeros
-zeros-stop i l h e = rw (drop-cons l i 0 h, ne-eqb (getD l i 0) 0 e)
+-- two numbers together have no bit exactly if both are zero
+or-none : (a b : ℕ) → eqb (bitOr a b) 0 ≡ (eqb a 0 && eqb b 0)
+or-none a b =
+    same-test (eqb (bitOr a b) 0) (eqb a 0 && eqb b 0)
+    (λ t. let z = eqb-true (bitOr a b) 0 t in and-both (eq-eqb a 0 (omega (arith, z, or-add-and a b, and-le-r a b))) (eq-eqb b 0 (omega (arith, z, or-add-and a b, and-le-l a b))))
+    (λ t. rw (eqb-true a 0 (and-left (eqb a 0) (eqb b 0) t), eqb-true b 0 (and-right (eqb a 0) (eqb b 0) t)))
 
-pub zeros-next : (i : ℕ) (l : List ℕ) → i < length l → getD l i 0 ≡ 0 → zeros (drop i l) ≡ zeros (drop (i + 1) l)
+-- one element more, where those before it have the bits b
+pub zeros-next : (b i : ℕ) (l : List ℕ) → i < length l → (eqb b 0 && zeros (drop i l)) ≡ (eqb (bitOr b (getD l i 0)) 0 && zeros (drop (i + 1) l))
 unfolding zeros
-zeros-next i l h e = rw (add-one, drop-cons l i 0 h, eq-eqb (getD l i 0) 0 e)
+zeros-next b i l h = rw (add-one, drop-cons l i 0 h, or-none b (getD l i 0)) (sym (and-assoc (eqb b 0) (eqb (getD l i 0) 0) (zeros (drop (suc i) l))))
 
 pub zeros-end : (i : ℕ) (l : List ℕ) → length l ≤ i → zeros (drop i l) ≡ true
 unfolding zeros

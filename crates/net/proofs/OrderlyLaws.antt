@@ -18,7 +18,7 @@ use Rattle.net.specs.Limits.{sets, places}
 use Rattle.net.specs.Lists.{listed, zeros, ascendsAbove}
 use Rattle.net.specs.Sides.{masksOf, lengthsOf, countsOf, emptyAt, block, setsOn, OnSide}
 use Rattle.net.specs.Inner.{Sides, OrderlySides}
-use Rattle.net.specs.Orderly.{blockOk, endsOk, sidesOk, countsOk, sidesSized, sized, orderly, SideOrderly, Orderly}
+use Rattle.net.specs.Orderly.{blockOk, endsOk, sidesOk, countsOk, kindOk, sidesSized, sized, orderly, SideOrderly, Orderly}
 use Rattle.net.specs.declared.Net.{Net}
 use Rattle.net.specs.declared.Side.{Side}
 use Rattle.net.specs.declared.Side.the-variants.{Input, Output}
@@ -45,35 +45,35 @@ facts-ends start end h k d = rw (lt-ltb start activities h, lt-ltb end activitie
 -- ---- the parts of the test
 
 module _ (net : Net) (h : orderly net ≡ true) where
-  sides : Bool
-  sides = sidesOk (net .inputs) (net .«input_len») (net .start) && sidesOk (net .outputs) (net .«output_len») (net .end)
-
-  counts : Bool
-  counts = countsOk (net .«input_counts») (net .«input_len») && countsOk (net .«output_counts») (net .«output_len»)
+  both : Bool
+  both = kindOk (net .inputs) (net .«input_len») (net .«input_counts») (net .start) && kindOk (net .outputs) (net .«output_len») (net .«output_counts») (net .end)
 
   orderly-sized : sized net ≡ true
-  unfolding orderly sides counts
-  orderly-sized = and-left (sized net) (endsOk (net .start) (net .end) && (sides && counts)) h
+  unfolding orderly both
+  orderly-sized = and-left (sized net) (endsOk (net .start) (net .end) && both) h
 
-  beside-size : (endsOk (net .start) (net .end) && (sides && counts)) ≡ true
-  unfolding orderly sides counts
-  beside-size = and-right (sized net) (endsOk (net .start) (net .end) && (sides && counts)) h
+  beside-size : (endsOk (net .start) (net .end) && both) ≡ true
+  unfolding orderly both
+  beside-size = and-right (sized net) (endsOk (net .start) (net .end) && both) h
 
   pub orderly-ends : endsOk (net .start) (net .end) ≡ true
-  orderly-ends = and-left (endsOk (net .start) (net .end)) (sides && counts) beside-size
+  orderly-ends = and-left (endsOk (net .start) (net .end)) both beside-size
 
-  orderly-both : (sides && counts) ≡ true
-  orderly-both = and-right (endsOk (net .start) (net .end)) (sides && counts) beside-size
+  orderly-both : both ≡ true
+  orderly-both = and-right (endsOk (net .start) (net .end)) both beside-size
+
+  orderly-kind : (side : Side) → kindOk (masksOf net side) (lengthsOf net side) (countsOf net side) (emptyAt net side) ≡ true
+  unfolding both
+  orderly-kind Input = and-left _ (kindOk (net .outputs) (net .«output_len») (net .«output_counts») (net .end)) orderly-both
+  orderly-kind Output = and-right (kindOk (net .inputs) (net .«input_len») (net .«input_counts») (net .start)) _ orderly-both
 
   orderly-oks : (side : Side) → sidesOk (masksOf net side) (lengthsOf net side) (emptyAt net side) ≡ true
-  unfolding sides
-  orderly-oks Input = and-left _ (sidesOk (net .outputs) (net .«output_len») (net .end)) (and-left sides counts orderly-both)
-  orderly-oks Output = and-right (sidesOk (net .inputs) (net .«input_len») (net .start)) _ (and-left sides counts orderly-both)
+  unfolding kindOk
+  orderly-oks side = and-left (sidesOk (masksOf net side) (lengthsOf net side) (emptyAt net side)) (countsOk (countsOf net side) (lengthsOf net side)) (orderly-kind side)
 
   counts-oks : (side : Side) → countsOk (countsOf net side) (lengthsOf net side) ≡ true
-  unfolding counts
-  counts-oks Input = and-left _ (countsOk (net .«output_counts») (net .«output_len»)) (and-right sides counts orderly-both)
-  counts-oks Output = and-right (countsOk (net .«input_counts») (net .«input_len»)) _ (and-right sides counts orderly-both)
+  unfolding kindOk
+  counts-oks side = and-right (sidesOk (masksOf net side) (lengthsOf net side) (emptyAt net side)) (countsOk (countsOf net side) (lengthsOf net side)) (orderly-kind side)
 
   side-sized : (side : Side) → sidesSized (masksOf net side) (lengthsOf net side) (countsOf net side) ≡ true
   unfolding sized
@@ -119,7 +119,7 @@ module _ (net : Net) (h : orderly net ≡ true) where
 
 pub parts-orderly : (net : Net) → endsOk (net .start) (net .end) ≡ true → ((side : Side) → OrderlySides (masksOf net side) (lengthsOf net side) (emptyAt net side))
     → ((side : Side) → OrderlyCounts (countsOf net side) (lengthsOf net side)) → orderly net ≡ true
-unfolding orderly sized
+unfolding orderly sized kindOk
 parts-orderly net e o c =
     rw (
       eq-eqb (length (net .inputs)) places (o Input .masks-long),

@@ -38,6 +38,10 @@ sidesOk masks lengths empty = allBelow activities (λ a. blockOk (block masks a)
 unfoldable pub countsOk : List ℕ → List ℕ → Bool
 countsOk counts lengths = allBelow activities (λ a. zeros (drop (getD lengths a 0) (block counts a)))
 
+-- both
+unfoldable pub kindOk : List ℕ → List ℕ → List ℕ → ℕ → Bool
+kindOk masks lengths counts empty = sidesOk masks lengths empty && countsOk counts lengths
+
 -- the lists of one kind of side are as long as the record's arrays
 abbrev pub sidesSized : List ℕ → List ℕ → List ℕ → Bool
 sidesSized masks lengths counts = eqb (length masks) places && (eqb (length lengths) activities && eqb (length counts) places)
@@ -50,8 +54,7 @@ unfoldable pub orderly : Net → Bool
 orderly net =
     sized net
     && (endsOk (net .start) (net .end)
-    && ((sidesOk (net .inputs) (net .«input_len») (net .start) && sidesOk (net .outputs) (net .«output_len») (net .end))
-    && (countsOk (net .«input_counts») (net .«input_len») && countsOk (net .«output_counts») (net .«output_len»))))
+    && (kindOk (net .inputs) (net .«input_len») (net .«input_counts») (net .start) && kindOk (net .outputs) (net .«output_len») (net .«output_counts») (net .end)))
 
 -- ---- the facts
 

@@ -9,7 +9,7 @@ ghost use lib.ListN.{length};
 ghost use Rattle.obligations.specs.Limits.{activities};
 ghost use Rattle.net.specs.Limits.{sets, places};
 ghost use Rattle.net.specs.Inner.{Sides};
-ghost use Rattle.net.specs.Orderly.{blockOk, sidesOk, countsOk, endsOk, orderly};
+ghost use Rattle.net.specs.Orderly.{blockOk, sidesOk, countsOk, kindOk, endsOk, orderly};
 
 // Whether a net record is orderly.
 pub fn is_orderly(net: Net) -> bool
@@ -20,16 +20,10 @@ pub fn is_orderly(net: Net) -> bool
     if !ends_ok(start, end) {
         return false;
     }
-    if !sides_ok(&net.inputs, &net.input_len, start) {
+    if !kind_ok(&net.inputs, &net.input_len, &net.input_counts, start) {
         return false;
     }
-    if !sides_ok(&net.outputs, &net.output_len, end) {
-        return false;
-    }
-    if !counts_ok(&net.input_counts, &net.input_len) {
-        return false;
-    }
-    counts_ok(&net.output_counts, &net.output_len)
+    kind_ok(&net.outputs, &net.output_len, &net.output_counts, end)
 }
 
 // Whether start and end are activities and differ.
@@ -43,6 +37,18 @@ pub fn ends_ok(start: u32, end: u32) -> bool
         return false;
     }
     start != end
+}
+
+// Whether every side of one kind is as it has to be, with its counts. One call for both keeps the test of the record so small
+// that it is compiled into the calls that make it, which then needn't copy the record.
+fn kind_ok<'a>(masks: &'a [u32], lengths: &'a [u32], counts: &'a [u32], empty: u32) -> bool
+    requires { ⌜ (length (now masks) ≡ places) × (length (now lengths) ≡ activities) × (length (now counts) ≡ places) ⌝ }
+    ensures { λ r. ⌜ r ≡ kindOk (now (masks .entry)) (now (lengths .entry)) (now (counts .entry)) empty ⌝ }
+{
+    if !sides_ok(masks, lengths, empty) {
+        return false;
+    }
+    counts_ok(counts, lengths)
 }
 
 // Whether every side of one kind is as it has to be, where the side of `empty` has to hold just the empty set.

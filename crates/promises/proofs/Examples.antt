@@ -14,7 +14,7 @@ use Rattle.obligations.specs.Sequence.{bindings, words, run, possibleAt, firstI
 use Rattle.obligations.specs.Examples.{fig4, trip}
 use Rattle.net.specs.Lists.{allBelow, listed, allListed, ascendsAbove, zeros, insert, insertAt, placeIn}
 use Rattle.net.specs.Sides.{uncounted, setsOn, countsOn}
-use Rattle.net.specs.Orderly.{endsOk, blockOk, sidesOk, sized, orderly, countsOk}
+use Rattle.net.specs.Orderly.{endsOk, blockOk, sidesOk, sized, orderly, countsOk, kindOk}
 use Rattle.net.specs.Fresh.{freshNet, freshGives}
 use Rattle.net.specs.Examples.{F, travel}
 use Rattle.net.specs.Put.{misplaced, sideSays, grows, putMasks, putLengths, putCounts}
@@ -42,18 +42,18 @@ use Rattle.promises.specs.Marked.{Marked, MarkedPeak, session, detour, M
 
 -- the marked examples
 pub marked : Marked
-unfolding freshGives judgeSays judgePositions runSays firstMissing onSideAt learnSays learnGives withinLimits wordsWithin bindings firstNoActivity firstFailing firstFrom learnPositions shaped endsAgree firstWronglyEmpty emptyAgree firstImpossible possibleAt possible run after taken added inputs outputs placesOf members membersFrom keep allDue lowered raised allZero fits takesBinding takesPut withBinding withUse gained topped toppedBinding toppedUse toppedAt raisedAt sideSays misplaced listed insert insertAt placeIn grows putMasks putLengths putCounts total freshNet orderly sized endsOk sidesOk blockOk countsOk allBelow ascendsAbove zeros trialsOf later orElse behind trialIf trial tryOutputs tryInputs atEnd searchFrom searchOf endSays replayed withinBudget checkedSays hasRoom replayTests replaySays checkSays lowestMember lost unanswered unansweredOn outside successors predecessors inNet onSides reach rounds oneRound unionFrom rows rowsFrom arcs arc names named those thoseBelow withIf sumBelow number anyBelow union single member bit F fig4 answers
+unfolding freshGives judgeSays judgePositions runSays firstMissing onSideAt learnSays learnGives withinLimits wordsWithin bindings firstNoActivity firstFailing firstFrom learnPositions shaped endsAgree firstWronglyEmpty emptyAgree firstImpossible possibleAt possible run after taken added inputs outputs placesOf members membersFrom keep allDue lowered raised allZero fits takesBinding takesPut withBinding withUse gained topped toppedBinding toppedUse toppedAt raisedAt sideSays misplaced listed insert insertAt placeIn grows putMasks putLengths putCounts total freshNet orderly sized endsOk sidesOk blockOk countsOk kindOk allBelow ascendsAbove zeros trialsOf later orElse behind trialIf trial tryOutputs tryInputs atEnd searchFrom searchOf endSays replayed withinBudget checkedSays hasRoom replayTests replaySays checkSays lowestMember lost unanswered unansweredOn outside successors predecessors inNet onSides reach rounds oneRound unionFrom rows rowsFrom arcs arc names named those thoseBelow withIf sumBelow number anyBelow union single member bit F fig4 answers
 marked = (refl, refl, refl, refl, refl, refl, refl, refl, refl, refl, refl, refl, refl)
 
 -- the peak is 4, and as the judge says it too
 pub marked-peak : MarkedPeak
-unfolding judgeSays judgePositions runSays firstMissing onSideAt withinLimits wordsWithin bindings firstNoActivity firstFailing firstFrom shaped endsAgree firstImpossible possibleAt possible run after taken added inputs outputs placesOf members membersFrom keep allDue lowered raised allZero total largestTotal outputSizes size listed orderly sized endsOk sidesOk blockOk countsOk allBelow ascendsAbove zeros lowestMember lost unanswered unansweredOn outside successors predecessors inNet onSides reach rounds oneRound unionFrom rows rowsFrom arc names named those thoseBelow withIf number anyBelow union single member bit travel trip
+unfolding judgeSays judgePositions runSays firstMissing onSideAt withinLimits wordsWithin bindings firstNoActivity firstFailing firstFrom shaped endsAgree firstImpossible possibleAt possible run after taken added inputs outputs placesOf members membersFrom keep allDue lowered raised allZero total largestTotal outputSizes size listed orderly sized endsOk sidesOk blockOk countsOk kindOk allBelow ascendsAbove zeros lowestMember lost unanswered unansweredOn outside successors predecessors inNet onSides reach rounds oneRound unionFrom rows rowsFrom arc names named those thoseBelow withIf number anyBelow union single member bit travel trip
 marked-peak = (largest-is-peak (bindings trip) 4 (lit< tt) .0 refl, refl, refl)
 
 -- the longest session is followed and replayed, one that is longer is refused by 3, and sets of the last three positions decide
 -- a comparison
 pub marked-longest : MarkedLongest
-unfolding freshGives judgeSays learnSays learnGives withinLimits wordsWithin bindings words firstNoActivity firstFailing firstFrom shaped endsAgree possible after taken added inputs outputs placesOf members membersFrom keep allDue lowered raised allZero fits takesBinding takesPut withBinding withUse gained topped toppedBinding toppedUse toppedAt raisedAt sideSays misplaced listed insert insertAt placeIn grows putMasks putLengths putCounts total freshNet orderly sized endsOk sidesOk blockOk countsOk allBelow ascendsAbove zeros followSays followGives traceWithinLimits followPositions followedFrom trialsOf later orElse behind trialIf trial tryOutputs tryInputs atEnd searchFrom searchOf endSays replayed withinBudget checkedSays hasRoom replayTests replaySays lowestMember lost unanswered unansweredOn outside successors predecessors inNet onSides reach rounds oneRound unionFrom rows rowsFrom arc names named those thoseBelow withIf number anyBelow union single member bit containedSays contained sidesWithin allListed session detour grown answers
+unfolding freshGives judgeSays learnSays learnGives withinLimits wordsWithin bindings words firstNoActivity firstFailing firstFrom shaped endsAgree possible after taken added inputs outputs placesOf members membersFrom keep allDue lowered raised allZero fits takesBinding takesPut withBinding withUse gained topped toppedBinding toppedUse toppedAt raisedAt sideSays misplaced listed insert insertAt placeIn grows putMasks putLengths putCounts total freshNet orderly sized endsOk sidesOk blockOk countsOk kindOk allBelow ascendsAbove zeros followSays followGives traceWithinLimits followPositions followedFrom trialsOf later orElse behind trialIf trial tryOutputs tryInputs atEnd searchFrom searchOf endSays replayed withinBudget checkedSays hasRoom replayTests replaySays lowestMember lost unanswered unansweredOn outside successors predecessors inNet onSides reach rounds oneRound unionFrom rows rowsFrom arc names named those thoseBelow withIf number anyBelow union single member bit containedSays contained sidesWithin allListed session detour grown answers
 marked-longest = (refl, refl, refl, refl, refl, refl, refl)
 
 -- F is what three sequences give, but for the counts
@@ -62,7 +62,7 @@ F-grown :
     (grown (freshNet 0 3)
     (learn (0 ∷ 0 ∷ 2 ∷ 1 ∷ 1 ∷ 8 ∷ 3 ∷ 2 ∷ 0 ∷ []) ∷ follow (0 ∷ 2 ∷ 3 ∷ []) ∷ learn (0 ∷ 0 ∷ 6 ∷ 1 ∷ 1 ∷ 8 ∷ 2 ∷ 1 ∷ 8 ∷ 3 ∷ 6 ∷ 0 ∷ []) ∷ []))
     ≡ F
-unfolding learnSays learnGives withinLimits wordsWithin bindings firstNoActivity firstFailing firstFrom learnPositions shaped endsAgree firstWronglyEmpty emptyAgree firstImpossible possibleAt possible run after taken added inputs outputs placesOf members membersFrom keep allDue lowered raised allZero fits takesBinding takesPut withBinding withUse gained topped toppedBinding toppedUse toppedAt raisedAt sideSays misplaced listed insert insertAt placeIn grows putMasks putLengths putCounts total freshNet orderly sized endsOk sidesOk blockOk countsOk allBelow ascendsAbove zeros followSays followGives traceWithinLimits followPositions followedFrom single F grown
+unfolding learnSays learnGives withinLimits wordsWithin bindings firstNoActivity firstFailing firstFrom learnPositions shaped endsAgree firstWronglyEmpty emptyAgree firstImpossible possibleAt possible run after taken added inputs outputs placesOf members membersFrom keep allDue lowered raised allZero fits takesBinding takesPut withBinding withUse gained topped toppedBinding toppedUse toppedAt raisedAt sideSays misplaced listed insert insertAt placeIn grows putMasks putLengths putCounts total freshNet orderly sized endsOk sidesOk blockOk countsOk kindOk allBelow ascendsAbove zeros followSays followGives traceWithinLimits followPositions followedFrom single F grown
 F-grown = refl
 
 -- and these are the counts after one more: of 0's outputs 2, 4 and 6, of 1's input 1, and of the empty sets; 0 and 3 occur four
@@ -76,7 +76,7 @@ F-counts :
     ∷ follow (0 ∷ 1 ∷ 3 ∷ [])
     ∷ []) in
     (countsOn net Output 0 ≡ 2 ∷ 1 ∷ 1 ∷ []) × (countsOn net Input 1 ≡ 3 ∷ []) × (countsOn net Output 2 ≡ 2 ∷ []) × (countsOn net Input 0 ≡ 4 ∷ []) × (countsOn net Output 3 ≡ 4 ∷ [])
-unfolding learnSays learnGives withinLimits wordsWithin bindings firstNoActivity firstFailing firstFrom learnPositions shaped endsAgree firstWronglyEmpty emptyAgree firstImpossible possibleAt possible run after taken added inputs outputs placesOf members membersFrom keep allDue lowered raised allZero fits takesBinding takesPut withBinding withUse gained topped toppedBinding toppedUse toppedAt raisedAt sideSays misplaced listed insert insertAt placeIn grows putMasks putLengths putCounts total freshNet orderly sized endsOk sidesOk blockOk countsOk allBelow ascendsAbove zeros followSays followGives traceWithinLimits followPositions followedFrom single grown
+unfolding learnSays learnGives withinLimits wordsWithin bindings firstNoActivity firstFailing firstFrom learnPositions shaped endsAgree firstWronglyEmpty emptyAgree firstImpossible possibleAt possible run after taken added inputs outputs placesOf members membersFrom keep allDue lowered raised allZero fits takesBinding takesPut withBinding withUse gained topped toppedBinding toppedUse toppedAt raisedAt sideSays misplaced listed insert insertAt placeIn grows putMasks putLengths putCounts total freshNet orderly sized endsOk sidesOk blockOk countsOk kindOk allBelow ascendsAbove zeros followSays followGives traceWithinLimits followPositions followedFrom single grown
 F-counts = (refl, refl, refl, refl, refl)
 
 -- ---- passing nets that contain the grown net and that don't
@@ -99,7 +99,7 @@ nets :
     × (map checkSays (net ∷ larger ∷ other ∷ []) ≡ map checkMeans (Passed 7 ∷ Passed 8 ∷ Passed 1 ∷ []))
     × (containedSays net larger ≡ containedMeans Yes)
     × (containedSays net other ≡ containedMeans No)
-unfolding learnSays learnGives withinLimits wordsWithin bindings firstNoActivity firstFailing firstFrom learnPositions shaped endsAgree firstWronglyEmpty emptyAgree firstImpossible possibleAt possible run after taken added inputs outputs placesOf members membersFrom keep allDue lowered raised allZero fits takesBinding takesPut withBinding withUse gained topped toppedBinding toppedUse toppedAt raisedAt sideSays misplaced listed insert insertAt placeIn grows putMasks putLengths putCounts total freshNet orderly sized endsOk sidesOk blockOk countsOk allBelow ascendsAbove zeros followSays followGives traceWithinLimits followPositions followedFrom single checkSays lowestMember lost unanswered unansweredOn outside successors predecessors inNet onSides reach rounds oneRound unionFrom rows rowsFrom arcs arc names named those thoseBelow withIf sumBelow number anyBelow union member bit containedSays contained sidesWithin allListed calls more others fig4 grown answers
+unfolding learnSays learnGives withinLimits wordsWithin bindings firstNoActivity firstFailing firstFrom learnPositions shaped endsAgree firstWronglyEmpty emptyAgree firstImpossible possibleAt possible run after taken added inputs outputs placesOf members membersFrom keep allDue lowered raised allZero fits takesBinding takesPut withBinding withUse gained topped toppedBinding toppedUse toppedAt raisedAt sideSays misplaced listed insert insertAt placeIn grows putMasks putLengths putCounts total freshNet orderly sized endsOk sidesOk blockOk countsOk kindOk allBelow ascendsAbove zeros followSays followGives traceWithinLimits followPositions followedFrom single checkSays lowestMember lost unanswered unansweredOn outside successors predecessors inNet onSides reach rounds oneRound unionFrom rows rowsFrom arcs arc names named those thoseBelow withIf sumBelow number anyBelow union member bit containedSays contained sidesWithin allListed calls more others fig4 grown answers
 nets = (refl, refl, refl, refl)
 
 -- ---- a list in which a side is full
@@ -127,5 +127,5 @@ busy =
 full :
     (answers (freshNet 0 31) busy ≡ map learnMeans (replicate 16 (Learned 4) ++ (Refused 12 0 ∷ Refused 3 0 ∷ Refused 3 0 ∷ Refused 4 2 ∷ Refused 9 1 ∷ Refused 11 0 ∷ Learned 0 ∷ [])))
     × (setsOn (grown (freshNet 0 31) busy) Output 0 ≡ 2 ∷ 4 ∷ 8 ∷ 16 ∷ 32 ∷ 64 ∷ 128 ∷ 256 ∷ 512 ∷ 1024 ∷ 2048 ∷ 4096 ∷ 8192 ∷ 16384 ∷ 32768 ∷ 65536 ∷ [])
-unfolding learnSays learnGives withinLimits wordsWithin bindings firstNoActivity firstFailing firstFrom learnPositions shaped endsAgree firstWronglyEmpty emptyAgree firstImpossible possibleAt possible run after taken added inputs outputs placesOf members membersFrom keep allDue lowered raised allZero fits takesBinding takesPut withBinding withUse gained topped toppedBinding toppedUse toppedAt raisedAt sideSays misplaced listed insert insertAt placeIn grows putMasks putLengths putCounts total freshNet orderly sized endsOk sidesOk blockOk countsOk allBelow ascendsAbove zeros followSays followGives traceWithinLimits followPositions followedFrom single through busy grown answers
+unfolding learnSays learnGives withinLimits wordsWithin bindings firstNoActivity firstFailing firstFrom learnPositions shaped endsAgree firstWronglyEmpty emptyAgree firstImpossible possibleAt possible run after taken added inputs outputs placesOf members membersFrom keep allDue lowered raised allZero fits takesBinding takesPut withBinding withUse gained topped toppedBinding toppedUse toppedAt raisedAt sideSays misplaced listed insert insertAt placeIn grows putMasks putLengths putCounts total freshNet orderly sized endsOk sidesOk blockOk countsOk kindOk allBelow ascendsAbove zeros followSays followGives traceWithinLimits followPositions followedFrom single through busy grown answers
 full = (refl, refl)

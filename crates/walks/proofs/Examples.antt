@@ -5,7 +5,7 @@ use mathlib.Core.List.{List, [], _∷_, map}
 use Rattle.obligations.specs.Tests.{number}
 use Rattle.obligations.specs.Sets.{bit, member, single, union, keep, membersFrom, members}
 use Rattle.net.specs.Lists.{allBelow, listed, ascendsAbove, zeros, insert, insertAt, placeIn}
-use Rattle.net.specs.Orderly.{endsOk, blockOk, sidesOk, sized, orderly, countsOk}
+use Rattle.net.specs.Orderly.{endsOk, blockOk, sidesOk, sized, orderly, countsOk, kindOk}
 use Rattle.net.specs.Fresh.{freshNet}
 use Rattle.net.specs.Put.{misplaced, sideSays, putSays, grows, putGives}
 use Rattle.net.specs.Examples.{F}
@@ -38,7 +38,7 @@ loop = puts (puts (puts (puts (freshNet 0 2) Output 0 (2 ∷ [])) Input 1 (1 ∷
 says :
     map checkSays (F ∷ named-only ∷ twice ∷ loop ∷ freshNet 7 3 ∷ freshNet 3 3 ∷ [])
     ≡ map checkMeans (Passed 4 ∷ Refused 6 5 ∷ Passed 4 ∷ Passed 3 ∷ Refused 6 3 ∷ Refused 2 0 ∷ [])
-unfolding F named-only twice loop puts freshNet putGives grows putSays sideSays misplaced insert insertAt placeIn listed checkSays lowestMember lost unanswered unansweredOn outside successors predecessors inNet onSides reach rounds oneRound unionFrom rows rowsFrom arcs arc names named those thoseBelow withIf sumBelow number anyBelow orderly sized endsOk sidesOk blockOk countsOk allBelow ascendsAbove zeros members membersFrom keep union single member bit
+unfolding F named-only twice loop puts freshNet putGives grows putSays sideSays misplaced insert insertAt placeIn listed checkSays lowestMember lost unanswered unansweredOn outside successors predecessors inNet onSides reach rounds oneRound unionFrom rows rowsFrom arcs arc names named those thoseBelow withIf sumBelow number anyBelow orderly sized endsOk sidesOk blockOk countsOk kindOk allBelow ascendsAbove zeros members membersFrom keep union single member bit
 says = refl
 
 -- F with one more set, or with two: 1 names 2, without its partner and with it; 2 names 1 on its input side, or on its output side;
@@ -54,5 +54,5 @@ partners :
     ∷ putGives (putGives F Output 2 1) Output 1 1
     ∷ [])
     ≡ map checkMeans (Refused 19 1 ∷ Passed 5 ∷ Refused 19 2 ∷ Refused 19 2 ∷ Refused 19 1 ∷ Passed 5 ∷ Refused 19 1 ∷ [])
-unfolding F freshNet putGives grows putSays sideSays misplaced insert insertAt placeIn listed checkSays lowestMember lost unanswered unansweredOn outside successors predecessors inNet onSides reach rounds oneRound unionFrom rows rowsFrom arcs arc names named those thoseBelow withIf sumBelow number anyBelow orderly sized endsOk sidesOk blockOk countsOk allBelow ascendsAbove zeros members membersFrom keep union single member bit
+unfolding F freshNet putGives grows putSays sideSays misplaced insert insertAt placeIn listed checkSays lowestMember lost unanswered unansweredOn outside successors predecessors inNet onSides reach rounds oneRound unionFrom rows rowsFrom arcs arc names named those thoseBelow withIf sumBelow number anyBelow orderly sized endsOk sidesOk blockOk countsOk kindOk allBelow ascendsAbove zeros members membersFrom keep union single member bit
 partners = refl

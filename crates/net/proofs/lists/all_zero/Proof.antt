@@ -1,34 +1,31 @@
--- `all_zero` meets its contract: the loop keeps that the answer for the whole list is the answer for the rest. Assumes
--- nothing.
+-- `all_zero` meets its contract: the loop keeps that the whole list is zero exactly if the elements passed have no bit and the rest
+-- is zero. Assumes nothing.
 use borrow.Author.Needs.{needs}
 use Prim.Native.Nat.{_≤_, _-_}
 use native.Mathlib.Omega.{arith}
-use mathlib.Core.Path.{_≡_, sym, _∙_}
+use mathlib.Core.Bool.{_&&_, and-true}
+use mathlib.Core.Path.{_≡_, refl, sym, ap, _∙_}
+use lib.Dec.{eqb}
 use lib.ListN.{length, drop}
 use Rattle.net.specs.Lists.{zeros}
-use Rattle.net.proofs.ListLaws.{zeros-stop, zeros-next, zeros-end}
+use Rattle.net.proofs.ListLaws.{zeros-next, zeros-end}
 use Rattle.net.proofs.lists.all_zero.Statement.{statement}
 use Rattle.net.proofs.lists.all_zero.Tie as tie
 
 abbrev Inv-loop : tie.InvT-loop
-Inv-loop list i₀ i = (i ≤ length list) × (zeros list ≡ zeros (drop i list))
+Inv-loop list bits₀ i₀ bits i = (i ≤ length list) × (zeros list ≡ (eqb bits 0 && zeros (drop i list)))
 
 abbrev μ-loop : tie.MeasureT-loop
-μ-loop list i₀ i = length list - i
+μ-loop list bits₀ i₀ bits i = length list - i
 
 loop-holds : tie.Need-loop-holds Inv-loop μ-loop
-loop-holds c = search needs
+loop-holds c = (search needs, refl)
 
-mul-if1 : tie.Need-mul-if1 Inv-loop μ-loop
-mul-if1 c = search needs
+mul-bits : tie.Need-mul-bits Inv-loop μ-loop
+mul-bits c = search needs
 
-shared-slice-read-if1 : tie.Need-shared-slice-read-if1 Inv-loop μ-loop
-shared-slice-read-if1 c = search needs
-
-returns : tie.Need-returns Inv-loop μ-loop
-returns c =
-    let k = c .before .before .before in
-    sym (k .loop .inv .1 ∙ zeros-stop (k .loop .i) (k .before .args .list .now) (omega arith) (c .if1 .taken))
+shared-slice-read-bits : tie.Need-shared-slice-read-bits Inv-loop μ-loop
+shared-slice-read-bits c = search needs
 
 add-i : tie.Need-add-i Inv-loop μ-loop
 add-i c = search needs
@@ -38,13 +35,13 @@ loop-less c = search needs
 
 loop-again : tie.Need-loop-again Inv-loop μ-loop
 loop-again c =
-    let k = c .before .before .before in
-    (search needs, k .loop .inv .1 ∙ zeros-next (k .loop .i) (k .before .args .list .now) (omega arith) (c .if1 .left))
+    let k = c .before .before in
+    (search needs, k .loop .inv .1 ∙ zeros-next (k .loop .bits) (k .loop .i) (k .before .args .list .now) (omega arith))
 
-returns-2 : tie.Need-returns-2 Inv-loop μ-loop
-returns-2 c =
+returns : tie.Need-returns Inv-loop μ-loop
+returns c =
     let k = c .before in
-    sym (k .loop .inv .1 ∙ zeros-end (k .loop .i) (k .before .args .list .now) (omega arith))
+    sym (k .loop .inv .1 ∙ ap (λ r. eqb (k .loop .bits) 0 && r) (zeros-end (k .loop .i) (k .before .args .list .now) (omega arith)) ∙ and-true (eqb (k .loop .bits) 0))
 
 pub all-zero-spec : {M : Type 1} → statement M
 all-zero-spec =
@@ -53,10 +50,9 @@ all-zero-spec =
     Inv-loop
     μ-loop
     loop-holds
-    mul-if1
-    shared-slice-read-if1
-    returns
+    mul-bits
+    shared-slice-read-bits
     add-i
     loop-less
     loop-again
-    returns-2)
+    returns)
