@@ -9,6 +9,6 @@ sets = 16
 abbrev pub places : ℕ
 places = 512
 
--- a set's count of uses is at most this (02, (viii))
-abbrev pub highestCount : ℕ
-highestCount = 4294967295
+-- so many uses of a set are counted at most (02, (viii))
+abbrev pub mostUses : ℕ
+mostUses = 4294967295

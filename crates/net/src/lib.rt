@@ -20,6 +20,9 @@ pub const SETS: u32 = 16;
 // A kind of side has a list for each activity.
 pub const LISTS: usize = ACTIVITIES as usize;
 
+// So many uses of a set are counted at most.
+pub const MOST_USES: u32 = 4294967295;
+
 // The places of the sets in all lists of a kind of side.
 pub const PLACES: usize = (ACTIVITIES * SETS) as usize;
 

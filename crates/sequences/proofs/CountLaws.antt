@@ -13,7 +13,7 @@ use lib.Dec.{eqb}
 use Rattle.obligations.specs.Tests.{indicator}
 use Rattle.obligations.specs.State.{total}
 use Rattle.obligations.specs.Sequence.{Binding}
-use Rattle.net.specs.Limits.{highestCount}
+use Rattle.net.specs.Limits.{mostUses}
 use Rattle.net.specs.Sides.{countsOn, countOf}
 use Rattle.net.specs.Orderly.{orderly}
 use Rattle.net.specs.declared.Net.{Net}
@@ -100,7 +100,7 @@ module _ (net : Net) (b : Binding) (s : List Binding) (o : orderly net ≡ true)
           | yes l ↦ omega (arith, e, c .at-most t a m (used-set t s a m l))
           | no l ↦
               let w = used-own t b a m (omega (arith, set-used t (b ∷ s) a m u)) in
-              omega (arith, own-use t b a m (w .0) (w .1), subst (λ (k : ℕ). countOf net t a k < highestCount) (w .1) (subst (λ (k : ℕ). countOf net t k (setFor t b) < highestCount) (w .0) (topped-binding net b o h (fits-first net b s f) .0 z t)))
+              omega (arith, own-use t b a m (w .0) (w .1), subst (λ (k : ℕ). countOf net t a k < mostUses) (w .1) (subst (λ (k : ℕ). countOf net t k (setFor t b) < mostUses) (w .0) (topped-binding net b o h (fits-first net b s f) .0 z t)))
         ];
   }
 

@@ -14,7 +14,7 @@ use lib.Seq.{drop-cons}
 use Rattle.obligations.specs.Sequence.{Binding, at}
 use Rattle.obligations.proofs.BoolLaws.{true-or-false, false-not-true}
 use Rattle.obligations.specs.Limits.{activities}
-use Rattle.net.specs.Limits.{places, highestCount}
+use Rattle.net.specs.Limits.{places, mostUses}
 use Rattle.net.specs.Refusals.{Says, accepted, refused}
 use Rattle.net.specs.Sides.{netSize}
 use Rattle.net.specs.Inner.{OrderlySides, placeOn, placedMeans, CountedDone}
@@ -58,7 +58,7 @@ took says tops u v e = go (says .ok) e
 
 one-topped : (counts : List ℕ) (i : ℕ) → toppedAt counts i ≤ 1
 unfolding toppedAt
-one-topped counts i = ⊎-elim (λ t. rw t (omega arith)) (λ t. rw t (omega arith)) (true-or-false (ltb (getD counts i 0) highestCount))
+one-topped counts i = ⊎-elim (λ t. rw t (omega arith)) (λ t. rw t (omega arith)) (true-or-false (ltb (getD counts i 0) mostUses))
 
 length-used : (masks lengths counts : List ℕ) (empty a m : ℕ) → OrderlySides masks lengths empty → length counts ≡ places → a < activities → length (usedCounts masks lengths counts empty a m) ≡ places
 unfolding raisedAt
@@ -66,7 +66,7 @@ length-used masks lengths counts empty a m o long h =
     let i = placeOn masks lengths a m in
     let l = putCounts masks lengths counts empty a m in
     let n = length-put-counts masks lengths counts empty a m o long h in
-    ⊎-elim (λ t. rw t (length-set l i (getD l i 0 + 1) ∙ n)) (λ t. rw t n) (true-or-false (ltb (getD l i 0) highestCount))
+    ⊎-elim (λ t. rw t (length-set l i (getD l i 0 + 1) ∙ n)) (λ t. rw t n) (true-or-false (ltb (getD l i 0) mostUses))
 
 -- ---- what a put and a raise leave
 

@@ -13,7 +13,7 @@ use Rattle.obligations.specs.Tests.{indicator}
 use Rattle.obligations.specs.State.{total}
 use Rattle.obligations.specs.Sequence.{Binding, at}
 use Rattle.obligations.proofs.BoolLaws.{and-left, and-right, true-or-false}
-use Rattle.net.specs.Limits.{highestCount}
+use Rattle.net.specs.Limits.{mostUses}
 use Rattle.net.specs.Lists.{listed}
 use Rattle.net.specs.Sides.{masksOf, lengthsOf, countsOf, emptyAt, opposite, sideIn, setsOn, countsOn, countIn, countOf, OnSide, netSize}
 use Rattle.net.specs.Inner.{OrderlySides, placeOn}
@@ -130,7 +130,7 @@ module _ (net : Net) (side : Side) (a m : ℕ) (o : orderly net ≡ true) (h : a
     topped-is = rw kept-place
 
     -- it could be raised exactly if it was below its top
-    pub topped-use : (toppedUse net side a m ≡ 0) ↔ (countOf net side a m < highestCount)
+    pub topped-use : (toppedUse net side a m ≡ 0) ↔ (countOf net side a m < mostUses)
     topped-use =
         let f = topped-exactly masks′ lengths′ counts′ (emptyAt net side) a m sides-after counts-after h (there k) in (
           (λ z. rw (after-put a m) at (f .0 (sym topped-is ∙ z))),
@@ -218,7 +218,7 @@ module _ (net : Net) (b : Binding) (o : orderly net ≡ true) (h : b .activity <
         own Output ix iy ea em = iy .1 (inr (refl, sym ea, sym em))
 
     -- both counts could be raised exactly if they were below their tops
-    pub topped-binding : (toppedBinding net b ≡ 0) ↔ ((t : Side) → countOf net t (b .activity) (setFor t b) < highestCount)
+    pub topped-binding : (toppedBinding net b ≡ 0) ↔ ((t : Side) → countOf net t (b .activity) (setFor t b) < mostUses)
     unfolding toppedBinding
     topped-binding =
         let x = topped-use net Input (b .activity) (b .input) o h takes-input in

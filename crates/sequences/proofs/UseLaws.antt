@@ -16,7 +16,7 @@ use Rattle.obligations.specs.Tests.{indicator}
 use Rattle.obligations.specs.State.{total}
 use Rattle.obligations.proofs.BoolLaws.{true-or-false}
 use Rattle.obligations.proofs.TotalLaws.{total-raise}
-use Rattle.net.specs.Limits.{sets, places, highestCount}
+use Rattle.net.specs.Limits.{sets, places, mostUses}
 use Rattle.net.specs.Lists.{listed, placeIn, zeros}
 use Rattle.net.specs.Sides.{block, sideIn, countIn}
 use Rattle.net.specs.Inner.{OrderlySides, placeOn}
@@ -81,20 +81,20 @@ module _ (masks lengths counts : List ℕ) (empty a m : ℕ) (o : OrderlySides m
 
   pub raised-orderly : OrderlyCounts (raisedAt counts (placeOn masks lengths a m)) lengths
   unfolding raisedAt
-  raised-orderly = ⊎-elim (λ t. rw t stored-orderly) (λ t. rw t c) (true-or-false (ltb (getD counts (placeOn masks lengths a m) 0) highestCount))
+  raised-orderly = ⊎-elim (λ t. rw t stored-orderly) (λ t. rw t c) (true-or-false (ltb (getD counts (placeOn masks lengths a m) 0) mostUses))
 
   -- it could be raised exactly if it is below its top
-  pub topped-exactly : (toppedAt counts (placeOn masks lengths a m) ≡ 0) ↔ (countIn m (sideIn masks lengths a) (sideIn counts lengths a) < highestCount)
+  pub topped-exactly : (toppedAt counts (placeOn masks lengths a m) ≡ 0) ↔ (countIn m (sideIn masks lengths a) (sideIn counts lengths a) < mostUses)
   unfolding toppedAt
   topped-exactly = (
-    (λ e. ⊎-elim (λ t. rw count-there at (ltb-true (getD counts (placeOn masks lengths a m) 0) highestCount t)) (λ t. absurd (let z = rw t at e in omega arith)) (true-or-false (ltb (getD counts (placeOn masks lengths a m) 0) highestCount))),
+    (λ e. ⊎-elim (λ t. rw count-there at (ltb-true (getD counts (placeOn masks lengths a m) 0) mostUses t)) (λ t. absurd (let z = rw t at e in omega arith)) (true-or-false (ltb (getD counts (placeOn masks lengths a m) 0) mostUses))),
     (λ l. rw (count-there, lt-ltb _ _ l)),
   )
 
   module _ (t : toppedAt counts (placeOn masks lengths a m) ≡ 0) where
     was-stored : raisedAt counts (placeOn masks lengths a m) ≡ stored
     unfolding raisedAt
-    was-stored = rw (lt-ltb (getD counts (placeOn masks lengths a m) 0) highestCount (rw count-there (topped-exactly .0 t)))
+    was-stored = rw (lt-ltb (getD counts (placeOn masks lengths a m) 0) mostUses (rw count-there (topped-exactly .0 t)))
 
     pub raised-count : (b x : ℕ) → countIn x (sideIn masks lengths b) (sideIn (raisedAt counts (placeOn masks lengths a m)) lengths b)
         ≡ countIn x (sideIn masks lengths b) (sideIn counts lengths b) + indicator (eqb a b && eqb m x)

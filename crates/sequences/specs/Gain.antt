@@ -10,7 +10,7 @@ use lib.ListN.{length, getD, set}
 use Rattle.obligations.specs.Limits.{activities}
 use Rattle.obligations.specs.Tests.{indicator}
 use Rattle.obligations.specs.Sequence.{Binding, at}
-use Rattle.net.specs.Limits.{sets, highestCount}
+use Rattle.net.specs.Limits.{sets, mostUses}
 use Rattle.net.specs.Lists.{AtMost}
 use Rattle.net.specs.Refusals.{full-side, count-too-high}
 use Rattle.net.specs.Sentences.{Sentence, whole}
@@ -64,7 +64,7 @@ notFitting net s = whole full-side (Fits net s → ⊥)
 
 -- no count of a set that the sequence uses would be raised above 4294967295
 pub record Countable (net : Net) (s : List Binding) : Type 0 where
-  pub at-most : (side : Side) (a m : ℕ) → SetOf side s a m → countOf net side a m + uses side s a m ≤ highestCount
+  pub at-most : (side : Side) (a m : ℕ) → SetOf side s a m → countOf net side a m + uses side s a m ≤ mostUses
 
 -- 21: learning would raise a count above 4294967295
 abbrev pub notCountable : Net → List Binding → Sentence
@@ -74,10 +74,10 @@ notCountable net s = whole count-too-high (Countable net s → ⊥)
 
 -- the counts with one more at a place, and how many counts couldn't be raised: one at its top stays as it is
 unfoldable pub raisedAt : List ℕ → ℕ → List ℕ
-raisedAt counts i = cond (ltb (getD counts i 0) highestCount) (set counts i (getD counts i 0 + 1)) counts
+raisedAt counts i = cond (ltb (getD counts i 0) mostUses) (set counts i (getD counts i 0 + 1)) counts
 
 unfoldable pub toppedAt : List ℕ → ℕ → ℕ
-toppedAt counts i = cond (ltb (getD counts i 0) highestCount) 0 1
+toppedAt counts i = cond (ltb (getD counts i 0) mostUses) 0 1
 
 -- m on activity a's side, in the arrays of one kind of side: the counts after it was put there and used, and how many couldn't be
 -- raised

@@ -3,6 +3,7 @@
 use crate::LearnAnswer;
 use crate::LearnResult;
 use net::LISTS;
+use net::MOST_USES;
 use net::Net;
 use net::PLACES;
 use net::putting::Placed;
@@ -136,7 +137,7 @@ fn raise(counts: &mut [u32; PLACES], at: usize) -> u32
     ensures { λ r. ⌜ Raised (now (counts .entry)) at r (now (counts .exit)) ⌝ }
 {
     let count = counts[at];
-    if count < u32::MAX {
+    if count < MOST_USES {
         counts[at] = count + 1;
         0
     } else {
