@@ -113,6 +113,7 @@ fn load_sides(
     copy_words(records, at + COUNTS + kind * PLACES, counts, 0, PLACES);
 }
 
+// The same arrays become these.
 fn store_sides<'a>(
     records: &mut [u32; RECORDS],
     at: usize,

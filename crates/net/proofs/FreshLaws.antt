@@ -1,5 +1,5 @@
--- Laws of fresh: its net holds the empty set on the start's input side and the end's output side and nothing else, and
--- is orderly. Each is read off arrays of zeros in which one length is 1. Assumes nothing.
+-- Laws of fresh: its net holds the empty set on the start's input side and the end's output side and nothing else, has
+-- counts 0 and is orderly. Each is read off arrays of zeros in which one length is 1. Assumes nothing.
 use Prim.Native.Nat.{ℕ, _+_, _*_, _<_}
 use native.Mathlib.Decide.{ℕ-discrete as decEq}
 use native.Mathlib.Omega.{arith}

@@ -127,11 +127,6 @@ unfolding ascendsAbove
 at-ascends p [] f h = refl
 at-ascends p (x ∷ xs) f h = rw (lt-ltb p x (f (omega arith))) (at-ascends x xs (λ k. h 0 (omega arith)) (λ i k. h (suc i) (omega arith)))
 
-pub ascends-weaker : (p q : ℕ) (l : List ℕ) → q ≤ p → ascendsAbove p l ≡ true → ascendsAbove q l ≡ true
-unfolding ascendsAbove
-ascends-weaker p q [] k h = refl
-ascends-weaker p q (x ∷ xs) k h = let a = ascends-head p x xs h in rw (lt-ltb q x (omega arith)) (ascends-tail p x xs h)
-
 -- no element of an ascending list is at most its lower bound
 pub ascends-not-listed : (p q : ℕ) (l : List ℕ) → q ≤ p → ascendsAbove p l ≡ true → listed q l ≡ false
 unfolding listed

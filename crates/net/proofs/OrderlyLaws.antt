@@ -9,8 +9,7 @@ use mathlib.Core.Path.{_≡_, refl, sym, ap, _∙_}
 use mathlib.Core.Bool.{Bool, true, false, _&&_, not}
 use mathlib.Core.List.{List, [], _∷_}
 use lib.Dec.{ltb, eqb}
-use lib.ListN.{length, drop, getD, length-drop}
-use lib.Seq.{getD-drop}
+use lib.ListN.{length, drop, getD}
 use borrow.Author.Tests.{ltb-true, eqb-true, eqb-false, not-true, lt-ltb, le-leb, eq-eqb, ne-eqb}
 use Rattle.obligations.specs.Limits.{activities}
 use Rattle.obligations.proofs.BoolLaws.{and-left, and-right, false-not-true}

@@ -4,19 +4,19 @@
 use Prim.Native.Nat.{ℕ, zero, suc, _+_, _<_, _≤_}
 use native.Mathlib.Decide.{ℕ-discrete as decEq, decLt}
 use native.Mathlib.Omega.{arith}
-use mathlib.Core.Path.{_≡_, refl, sym, ap, _∙_}
+use mathlib.Core.Path.{_≡_, refl, sym, _∙_}
 use mathlib.Core.Bool.{true, false}
 use mathlib.Core.List.{List, [], _∷_}
 use mathlib.Core.Logic.{⊎-elim}
 use lib.Dec.{eqb}
 use lib.ListN.{length, getD, set}
-use borrow.Author.Tests.{lt-ltb, le-ltb, eq-eqb, ne-eqb, eqb-true, eqb-false}
+use borrow.Author.Tests.{lt-ltb, le-ltb, eq-eqb, ne-eqb, eqb-true}
 use Rattle.obligations.specs.Tests.{indicator}
 use Rattle.obligations.specs.State.{total}
 use Rattle.obligations.proofs.BoolLaws.{false-not-true, or-neither, and-left, and-right}
 use Rattle.net.specs.Lists.{listed, placeIn, insertAt, ascendsAbove, zeros}
 use Rattle.net.specs.Sides.{countIn}
-use Rattle.net.proofs.ListLaws.{none-listed, listed-cases, listed-later, listed-first, ascends-head, ascends-tail, ascends-not-listed}
+use Rattle.net.proofs.ListLaws.{none-listed, listed-cases, listed-later, listed-first, ascends-tail, ascends-not-listed}
 
 -- strictly ascending, whatever the first element is
 abbrev pub Ascending : List ℕ → Type 0

@@ -1,7 +1,7 @@
 -- What a put on one side leaves, by its answers, and the counts beside it. Assumes nothing.
 use Prim.Native.Nat.{ℕ, _+_, _*_, _-_, _<_, _≤_}
 use native.Mathlib.Omega.{arith}
-use mathlib.Core.Path.{_≡_, refl, _∙_}
+use mathlib.Core.Path.{_≡_, refl, sym, _∙_}
 use mathlib.Core.Bool.{true, false}
 use mathlib.Core.List.{List, _∷_}
 use mathlib.Core.Logic.{_⊎_, inl, ⊎-elim}
@@ -10,8 +10,8 @@ use borrow.Author.Tests.{eq-eqb, ne-eqb}
 use Rattle.obligations.specs.Limits.{activities}
 use Rattle.net.specs.Limits.{sets, places}
 use Rattle.net.specs.Lists.{listed, insert, splice}
-use Rattle.net.specs.Sides.{sideIn}
-use Rattle.net.specs.Inner.{OrderlySides, placeOn, SideDone, CountedDone}
+use Rattle.net.specs.Sides.{sideIn, placeOn}
+use Rattle.net.specs.Inner.{OrderlySides, SideDone, CountedDone}
 use Rattle.net.specs.Put.{misplaced, sideSays, grows, grownMasks, grownLengths, putMasks, putLengths, putCounts}
 use Rattle.net.specs.declared.putting.Placed.{Placed}
 use Rattle.net.specs.declared.putting.Placed.the-variants.{New, Present, Refused}
@@ -19,20 +19,23 @@ use Rattle.net.proofs.PutSideLaws.{place-in-side, inserted, has-room}
 
 -- ---- the place that an answer has
 
-new-at : (x at : ℕ) → (New x ≡ New at) ⊎ (New x ≡ Present at) → at ≡ x
-new-at x at w = ⊎-elim (λ e. cc) (λ e. absurd (let z : _≡_ {A = ℕ} 0 1 = cc in omega arith)) w
-
-present-at : (x at : ℕ) → (Present x ≡ New at) ⊎ (Present x ≡ Present at) → at ≡ x
-present-at x at w = ⊎-elim (λ e. absurd (let z : _≡_ {A = ℕ} 0 1 = cc in omega arith)) (λ e. cc) w
-
-refused-nowhere : (n p at : ℕ) → (Refused n p ≡ New at) ⊎ (Refused n p ≡ Present at) → ⊥
-refused-nowhere n p at w = ⊎-elim (λ e. let z : _≡_ {A = ℕ} 0 1 = cc in omega arith) (λ e. let z : _≡_ {A = ℕ} 0 1 = cc in omega arith) w
-
 pub present-not-new : (x y : ℕ) → Present x ≡ New y → ⊥
 present-not-new x y e = let z : _≡_ {A = ℕ} 0 1 = cc in omega arith
 
 pub refused-not-new : (n p y : ℕ) → Refused n p ≡ New y → ⊥
 refused-not-new n p y e = let z : _≡_ {A = ℕ} 0 1 = cc in omega arith
+
+refused-not-present : (n p y : ℕ) → Refused n p ≡ Present y → ⊥
+refused-not-present n p y e = let z : _≡_ {A = ℕ} 0 1 = cc in omega arith
+
+new-at : (x at : ℕ) → (New x ≡ New at) ⊎ (New x ≡ Present at) → at ≡ x
+new-at x at w = ⊎-elim (λ e. cc) (λ e. absurd (present-not-new at x (sym e))) w
+
+present-at : (x at : ℕ) → (Present x ≡ New at) ⊎ (Present x ≡ Present at) → at ≡ x
+present-at x at w = ⊎-elim (λ e. absurd (present-not-new x at e)) (λ e. cc) w
+
+refused-nowhere : (n p at : ℕ) → (Refused n p ≡ New at) ⊎ (Refused n p ≡ Present at) → ⊥
+refused-nowhere n p at w = ⊎-elim (refused-not-new n p at) (refused-not-present n p at) w
 
 -- ---- the side's arrays
 

@@ -9,10 +9,9 @@ use mathlib.Core.List.{List}
 use lib.Dec.{ltb}
 use borrow.Author.Tests.{ltb-true, lt-ltb}
 use Rattle.obligations.specs.Limits.{activities}
-use Rattle.obligations.specs.State.{total}
 use Rattle.obligations.proofs.BoolLaws.{true-or-false, false-not-true}
 use Rattle.net.specs.Refusals.{Says, refused, disorderly, no-activity}
-use Rattle.net.specs.Sides.{masksOf, lengthsOf, countsOf, emptyAt, countsOn, countOf, OnSide, netSize}
+use Rattle.net.specs.Sides.{masksOf, lengthsOf, countsOf, emptyAt, countOf, OnSide, netSize}
 use Rattle.net.specs.Orderly.{orderly}
 use Rattle.net.specs.Put.{putMeans, sideSays, putSays, grows, grownMasks, grownLengths, grownCounts, withSides, withSet, putMasks, putLengths, putCounts, putGives, PutDone}
 use Rattle.net.specs.Inner.{placedMeans, CountedDone}
@@ -22,7 +21,7 @@ use Rattle.net.specs.declared.PutAnswer.{PutAnswer}
 use Rattle.net.specs.declared.putting.Placed.{Placed}
 use Rattle.net.proofs.OrderlyLaws.{orderly-sides, orderly-counts}
 use Rattle.net.proofs.WithSidesLaws.{with-cond, with-start, with-end, with-sets, with-orderly, with-size}
-use Rattle.net.proofs.PutSideLaws.{put-side-total, put-side-orderly, put-side-holds, put-side-counted, put-side-count, put-side-sum}
+use Rattle.net.proofs.PutSideLaws.{put-side-total, put-side-orderly, put-side-holds, put-side-counted, put-side-count}
 
 -- ---- put and the side's arrays
 
@@ -135,16 +134,4 @@ module _ (net : Net) (side : Side) (a m : ℕ) where
           (⊎-elim
           (λ e. rw (e .other-sets, e .other-counts, e .same) (put-side-count (masksOf net side) (lengthsOf net side) (countsOf net side) (emptyAt net side) a m (orderly-sides net o side) (orderly-counts net o side) h b x))
           (λ e. rw (e .own-sets, e .own-counts))
-          (with-sets net masks′ lengths′ counts′ side t b))
-
-  pub put-sum : orderly net ≡ true → (t : Side) (b : ℕ) → total (countsOn (putGives net side a m) t b) ≡ total (countsOn net t b)
-  put-sum o t b = ⊎-elim kept (λ d. rw (put-refused d)) (true-or-false (putSays net side a m .ok))
-    where
-      kept : putSays net side a m .ok ≡ true → total (countsOn (putGives net side a m) t b) ≡ total (countsOn net t b)
-      kept ok =
-          let h = put-accepted ok .1 in
-          rw (put-gives-sides o h)
-          (⊎-elim
-          (λ e. rw (e .other-counts, e .same) (put-side-sum (masksOf net side) (lengthsOf net side) (countsOf net side) (emptyAt net side) a m (orderly-sides net o side) (orderly-counts net o side) h b))
-          (λ e. rw (e .own-counts))
           (with-sets net masks′ lengths′ counts′ side t b))

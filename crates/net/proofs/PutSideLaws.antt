@@ -20,8 +20,8 @@ use Rattle.net.specs.Limits.{sets, places}
 use Rattle.net.specs.Refusals.{Says, accepted, misplaced-set, full-side}
 use Rattle.net.specs.Chains.{unless}
 use Rattle.net.specs.Lists.{listed, placeIn, insertAt, insert, splice}
-use Rattle.net.specs.Sides.{sideIn, countIn}
-use Rattle.net.specs.Inner.{OrderlySides, placeOn}
+use Rattle.net.specs.Sides.{sideIn, countIn, placeOn}
+use Rattle.net.specs.Inner.{OrderlySides}
 use Rattle.net.specs.Put.{misplaced, sideSays, grows, grownMasks, grownLengths, grownCounts, putMasks, putLengths, putCounts}
 use Rattle.net.proofs.ListLaws.{one-listed}
 use Rattle.net.proofs.InsertLaws.{listed-insert, place-within, splice-insert}
@@ -230,11 +230,6 @@ module _ (masks lengths : List ℕ) (empty a m : ℕ) (o : OrderlySides masks le
 
 -- ---- the counts
 
-pub length-put-counts : (masks lengths counts : List ℕ) (empty a m : ℕ) → OrderlySides masks lengths empty → length counts ≡ places → a < activities → length (putCounts masks lengths counts empty a m) ≡ places
-unfolding putCounts
-length-put-counts masks lengths counts empty a m o long h =
-    ⊎-elim (λ g. rw g (length-grown-counts masks lengths counts a m long h (has-room masks lengths empty a m o h g))) (λ g. rw g long) (true-or-false (grows (sideSays masks lengths empty a m)))
-
 module _ (masks lengths counts : List ℕ) (empty a m : ℕ) (o : OrderlySides masks lengths empty) (c : OrderlyCounts counts lengths) (h : a < activities) where
   abbrev masks′ : List ℕ
   masks′ = putMasks masks lengths empty a m
@@ -247,12 +242,6 @@ module _ (masks lengths counts : List ℕ) (empty a m : ℕ) (o : OrderlySides m
 
   inside : a < length lengths
   inside = omega (arith, o .lengths-long)
-
-  pub put-side-counted : OrderlyCounts counts′ lengths′
-  unfolding putLengths putCounts
-  put-side-counted =
-      ⊎-elim (λ g. rw g (grown-orderly-counts masks lengths counts a m c h (has-room masks lengths empty a m o h g) inside)) (λ g. rw g c)
-      (true-or-false (grows (sideSays masks lengths empty a m)))
 
   -- each set keeps its count, and a new one has 0
   pub put-side-count : (b x : ℕ) → countIn x (sideIn masks′ lengths′ b) (sideIn counts′ lengths′ b) ≡ countIn x (sideIn masks lengths b) (sideIn counts lengths b)
@@ -273,6 +262,12 @@ module _ (masks lengths counts : List ℕ) (empty a m : ℕ) (o : OrderlySides m
             | no d ↦ rw (grown-side-other masks lengths a m (o .masks-long) h room b d (all-at-most masks lengths empty a m o h b), grown-counts-other masks lengths counts a m c h room b d (all-at-most masks lengths empty a m o h b))
           ]
 
+  pub put-side-counted : OrderlyCounts counts′ lengths′
+  unfolding putLengths putCounts
+  put-side-counted =
+      ⊎-elim (λ g. rw g (grown-orderly-counts masks lengths counts a m c h (has-room masks lengths empty a m o h g) inside)) (λ g. rw g c)
+      (true-or-false (grows (sideSays masks lengths empty a m)))
+
   pub put-side-sum : (b : ℕ) → total (sideIn counts′ lengths′ b) ≡ total (sideIn counts lengths b)
   unfolding putLengths putCounts
   put-side-sum b = ⊎-elim (λ g. rw g (grown g)) (λ g. rw g) (true-or-false (grows (sideSays masks lengths empty a m)))
@@ -284,3 +279,8 @@ module _ (masks lengths counts : List ℕ) (empty a m : ℕ) (o : OrderlySides m
             | yes e ↦ rw (e, grown-counts-same masks lengths counts a m c h room inside) (total-insert (placeIn m (sideIn masks lengths a)) (sideIn counts lengths a))
             | no d ↦ rw (grown-counts-other masks lengths counts a m c h room b d (all-at-most masks lengths empty a m o h b))
           ]
+
+pub length-put-counts : (masks lengths counts : List ℕ) (empty a m : ℕ) → OrderlySides masks lengths empty → length counts ≡ places → a < activities → length (putCounts masks lengths counts empty a m) ≡ places
+unfolding putCounts
+length-put-counts masks lengths counts empty a m o long h =
+    ⊎-elim (λ g. rw g (length-grown-counts masks lengths counts a m long h (has-room masks lengths empty a m o h g))) (λ g. rw g long) (true-or-false (grows (sideSays masks lengths empty a m)))

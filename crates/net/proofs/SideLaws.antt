@@ -1,5 +1,5 @@
 -- Laws of the sides of one kind, in arrays of masks and lengths of which every side is as it has to be: what each side
--- is. Each is read off the test of the side's 16 places. Assumes nothing.
+-- is, and of counts that are 0 past every side's sets. Each is read off the test of the side's 16 places. Assumes nothing.
 use Prim.Native.Nat.{ℕ, _+_, _*_, _-_, _<_, _≤_}
 use native.Mathlib.Decide.{ℕ-discrete as decEq}
 use native.Mathlib.Omega.{arith}

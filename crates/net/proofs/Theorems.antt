@@ -10,7 +10,7 @@ use Rattle.obligations.proofs.BoolLaws.{true-or-false, false-not-true}
 use Rattle.net.specs.Refusals.{Says, accepted, refused, name-unanswered}
 use Rattle.net.specs.Sentences.{orderOf, NoneHolds}
 use Rattle.net.specs.Lists.{listed}
-use Rattle.net.specs.Sides.{setsOn}
+use Rattle.net.specs.Sides.{setsOn, countsOn}
 use Rattle.net.specs.Orderly.{Orderly, endsOk, orderly}
 use Rattle.net.specs.Fresh.{freshNet, freshRefusals, freshSays, freshGives}
 use Rattle.net.specs.Put.{putRefusals, putSays, putGives}
@@ -19,6 +19,7 @@ use Rattle.net.specs.Statements.{PapersOrder, OrderlyTestRight, Containe
 use Rattle.net.specs.declared.Net.{Net}
 use Rattle.net.specs.declared.Side.{Side}
 use Rattle.net.proofs.SentenceLaws.{Told, told-accepted, told-value}
+use Rattle.net.proofs.PlaceLaws.{count-absent}
 use Rattle.net.proofs.OrderlyLaws.{orderly-facts, facts-orderly}
 use Rattle.net.proofs.FreshLaws.{fresh-start, fresh-end, fresh-on-side, fresh-unused, fresh-orderly}
 use Rattle.net.proofs.PutLaws.{put-refused, put-accepted, put-start, put-end, put-orderly, put-on-side, put-size, put-count}
@@ -63,7 +64,7 @@ fresh-holds start end e =
       end-is = fresh-end start end;
       is-orderly = orderly-facts _ (fresh-orderly start end (h .0));
       two-empty = fresh-on-side start end (h .0);
-      unused = fresh-unused start end (h .0);
+      never-used = fresh-unused start end (h .0);
     })
 
 pub fresh-refused : FreshRefused
@@ -97,6 +98,7 @@ put-with net side a m new e =
       on-sides = put-on-side net side a m ok;
       grown-by = rw (← ap (λ (s : Says). s .value) e) (put-size net side a m ok);
       same-counts = put-count net side a m (put-accepted net side a m ok .0);
+      new-uncounted = λ n. put-count net side a m (put-accepted net side a m ok .0) side a m ∙ count-absent m (setsOn net side a) (countsOn net side a) (⊎-elim (λ t. absurd (n t)) (λ f. f) (true-or-false (listed m (setsOn net side a))));
     }
 
 pub put-holds : PutHolds

@@ -1,5 +1,5 @@
 -- What inner functions leave: no sentence of the papers speaks of these.
-use Prim.Native.Nat.{ℕ, _+_, _*_, _<_, _≤_}
+use Prim.Native.Nat.{ℕ, _<_, _≤_}
 use mathlib.Core.Path.{_≡_}
 use mathlib.Core.Bool.{true}
 use mathlib.Core.List.{List}
@@ -8,8 +8,7 @@ use lib.ListN.{length, getD}
 use Rattle.obligations.specs.Limits.{activities}
 use Rattle.net.specs.Limits.{sets, places}
 use Rattle.net.specs.Refusals.{Says, accepted, refused}
-use Rattle.net.specs.Lists.{placeIn}
-use Rattle.net.specs.Sides.{sideIn}
+use Rattle.net.specs.Sides.{placeOn}
 use Rattle.net.specs.Orderly.{sidesOk}
 use Rattle.net.specs.Put.{sideSays, putMasks, putLengths, putCounts}
 use Rattle.net.specs.declared.putting.Placed.{Placed}
@@ -26,10 +25,6 @@ pub record OrderlySides (masks lengths : List ℕ) (empty : ℕ) : Type 0 where
   pub masks-long : length masks ≡ places
   pub lengths-long : length lengths ≡ activities
   pub all-ok : sidesOk masks lengths empty ≡ true
-
--- where m stands on activity a's side or would stand there, among all places of this kind of side
-abbrev pub placeOn : List ℕ → List ℕ → ℕ → ℕ → ℕ
-placeOn masks lengths a m = sets * a + placeIn m (sideIn masks lengths a)
 
 -- what each answer of a put on a side means
 abbrev pub placedMeans : Placed → Says

@@ -1,4 +1,4 @@
--- Lists of masks: tests that compute, and insertion into an ascending list.
+-- Lists of masks and of counts: tests that compute, and insertion into a list.
 use Prim.Native.Nat.{ℕ, zero, suc, _≤_}
 use mathlib.Core.Path.{_≡_}
 use mathlib.Core.Bool.{Bool, true, false, cond, not, _&&_, _||_}

@@ -38,7 +38,7 @@ sidesOk masks lengths empty = allBelow activities (λ a. blockOk (block masks a)
 unfoldable pub countsOk : List ℕ → List ℕ → Bool
 countsOk counts lengths = allBelow activities (λ a. zeros (drop (getD lengths a 0) (block counts a)))
 
--- both
+-- the sides of one kind are as they have to be, and so are their counts
 unfoldable pub kindOk : List ℕ → List ℕ → List ℕ → ℕ → Bool
 kindOk masks lengths counts empty = sidesOk masks lengths empty && countsOk counts lengths
 

@@ -9,7 +9,7 @@ use lib.ListN.{take, drop, getD}
 use Rattle.obligations.specs.Limits.{masks}
 use Rattle.obligations.specs.State.{total}
 use Rattle.net.specs.Limits.{sets, places}
-use Rattle.net.specs.Lists.{listed, blank}
+use Rattle.net.specs.Lists.{listed, placeIn, blank}
 use Rattle.net.specs.declared.Net.{Net}
 use Rattle.net.specs.declared.Side.{Side}
 use Rattle.net.specs.declared.Side.the-variants.{Input, Output}
@@ -61,6 +61,10 @@ firstOf masks a n = take n (drop (sets * a) masks)
 -- the sets on activity a's side, in arrays of masks and lengths
 abbrev pub sideIn : List ℕ → List ℕ → ℕ → List ℕ
 sideIn masks lengths a = firstOf masks a (getD lengths a 0)
+
+-- where m stands on activity a's side or would stand there, among all places of this kind of side
+abbrev pub placeOn : List ℕ → List ℕ → ℕ → ℕ → ℕ
+placeOn masks lengths a m = sets * a + placeIn m (sideIn masks lengths a)
 
 -- the sets on activity a's side of a net
 abbrev pub setsOn : Net → Side → ℕ → List ℕ

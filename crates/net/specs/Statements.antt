@@ -38,7 +38,7 @@ pub record Fresh (start end : ℕ) (net : Net) : Type 0 where
   pub end-is : net .end ≡ end
   pub is-orderly : Orderly net
   pub two-empty : (side : Side) (a m : ℕ) → OnSide net side a m ↔ ((a ≡ emptyAt net side) × (m ≡ 0))
-  pub unused : (side : Side) (a m : ℕ) → countOf net side a m ≡ 0
+  pub never-used : (side : Side) (a m : ℕ) → countOf net side a m ≡ 0
 
 -- fresh is accepted exactly if no refusal holds, and then returns such a net
 abbrev pub FreshSaid : Type 0
@@ -51,8 +51,8 @@ FreshHolds = (start end : ℕ) → freshSays start end ≡ freshMeans fresh.Made
 abbrev pub FreshRefused : Type 0
 FreshRefused = (start end number place : ℕ) → freshSays start end ≡ freshMeans (fresh.Refused number place) → freshGives start end ≡ freshNet 0 1
 
--- the second net is the first with m on activity a's side, and nothing else; the value says whether it was new. No count changes:
--- one that wasn't there has 0, before and after
+-- the second net is the first with m on activity a's side, and nothing else; the value says whether it was new. No count changes,
+-- and a new set has count 0
 pub record Put (net : Net) (side : Side) (a m new : ℕ) (after : Net) : Type 0 where
   pub same-start : after .start ≡ net .start
   pub same-end : after .end ≡ net .end
@@ -60,6 +60,7 @@ pub record Put (net : Net) (side : Side) (a m new : ℕ) (after : Net) : Type 0 
   pub on-sides : (t : Side) (b x : ℕ) → OnSide after t b x ↔ (OnSide net t b x ⊎ ((t ≡ side) × (b ≡ a) × (x ≡ m)))
   pub grown-by : netSize after ≡ netSize net + new
   pub same-counts : (t : Side) (b x : ℕ) → countOf after t b x ≡ countOf net t b x
+  pub new-uncounted : (OnSide net side a m → ⊥) → countOf after side a m ≡ 0
 
 -- put is accepted exactly if no refusal holds, and says whether the set was new
 abbrev pub PutSaid : Type 0

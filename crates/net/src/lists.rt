@@ -1,4 +1,4 @@
-// Lists of masks, lent as slices.
+// Lists of masks and of counts, lent as slices.
 
 ghost use mathlib.Core.Path.{_≡_};
 ghost use mathlib.Core.List.{_∷_};
@@ -50,7 +50,8 @@ pub fn ascends(list: &[u32]) -> bool
     true
 }
 
-// Whether each element is zero. Nearly every list is, so the loop doesn't stop at one that isn't, and takes several at a time.
+// Whether each element is zero. Nearly every list is, so the loop doesn't stop at one that isn't: the compiler then takes
+// several at a time.
 pub fn all_zero(list: &[u32]) -> bool
     ensures { λ r. ⌜ r ≡ zeros (now (list .entry)) ⌝ }
 {
@@ -77,7 +78,7 @@ pub fn place_in(list: &[u32], m: u32) -> usize
     i
 }
 
-// Puts x first, and moves each element up by one, over the last.
+// Puts x first and moves each element up by one; the last is lost.
 pub fn shift(list: &mut [u32], x: u32)
     ensures { λ _. ⌜ now (list .exit) ≡ take (length (now (list .entry))) (x ∷ now (list .entry)) ⌝ }
 {

@@ -22,7 +22,8 @@ ghost use Rattle.net.specs.Limits.{sets, places};
 ghost use Rattle.net.specs.Lists.{splice};
 ghost use Rattle.net.specs.Orderly.{orderly};
 ghost use Rattle.net.specs.Put.{putMeans, misplaced, PutDone};
-ghost use Rattle.net.specs.Inner.{Sides, OrderlySides, placeOn, placedMeans, SideDone, CountedDone};
+ghost use Rattle.net.specs.Sides.{placeOn};
+ghost use Rattle.net.specs.Inner.{Sides, OrderlySides, placedMeans, SideDone, CountedDone};
 
 // What a put on one side did: the set's place among those of this kind of side, if it was new or was there, or the refusal.
 pub enum Placed {
@@ -120,6 +121,7 @@ pub fn put_counted(
     requires { ⌜ OrderlySides (now masks) (now lengths) empty × (length (now counts) ≡ places) × (a < activities) ⌝ }
     ensures { λ r. ⌜ CountedDone (now (masks .entry)) (now (lengths .entry)) (now (counts .entry)) empty a m r (now (masks .exit)) (now (lengths .exit)) (now (counts .exit)) ⌝ }
 {
+    // Before the length grows.
     let to = side_end(lengths, a);
     let placed = put_side(masks, lengths, empty, a, m);
     match placed {

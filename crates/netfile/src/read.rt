@@ -79,7 +79,7 @@ fn read_end(text: &[u8], i: usize, start: u32) -> NetReading
     }
 }
 
-// Reads the rows, which start at line 4 and at index `at`, into an orderly net without counts. The net's arrays are changed in
+// Reads the rows, which start at line 4 and at index `at`, into an orderly net with counts 0. The net's arrays are changed in
 // place, but for the counts, which stay 0.
 fn read_rows(text: &[u8], at: usize, mut net: Net) -> NetReading
     requires { ⌜ (at ≤ length (now text)) × (length (now text) ≤ netBytes) × (orderly net ≡ true) × (uncounted net ≡ net) ⌝ }
@@ -125,7 +125,7 @@ enum RowPut {
     Refused(u32),
 }
 
-// Puts a row's set into the arrays of an orderly net without counts.
+// Puts a row's set into the arrays of an orderly net with counts 0.
 fn put_row(
     start: u32,
     end: u32,

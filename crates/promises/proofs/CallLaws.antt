@@ -8,7 +8,7 @@ use native.Mathlib.Omega.{arith}
 use Rattle.obligations.specs.State.{total}
 use Rattle.obligations.specs.Sequence.{Binding, bindings, words}
 use Rattle.obligations.proofs.SequenceLaws.{bindings-words, held-at}
-use Rattle.net.specs.Refusals.{Says, accepted, refused}
+use Rattle.net.specs.Refusals.{accepted, refused}
 use Rattle.net.specs.Sentences.{NoneHolds, AsListed}
 use Rattle.net.specs.Sides.{countsOn, netSize}
 use Rattle.net.specs.Valid.{Valid}
@@ -16,7 +16,7 @@ use Rattle.net.specs.declared.Net.{Net}
 use Rattle.net.specs.declared.Side.{Side}
 use Rattle.net.specs.declared.Side.the-variants.{Input, Output}
 use Rattle.net.proofs.SentenceLaws.{Told, told-accepted}
-use Rattle.sequences.specs.Gain.{occurrences, Gains}
+use Rattle.sequences.specs.Gain.{occurrencesOf, Gains}
 use Rattle.sequences.specs.Learn.{newSets, learnSays, learnGives}
 use Rattle.sequences.specs.Follow.{followed}
 use Rattle.sequences.specs.Statements.{Words}
@@ -75,10 +75,10 @@ module _ (net : Net) (call : Call) (new : ℕ) (e : says net call ≡ accepted n
   call-grows = ap netSize (gives-learned net call) ∙ learn-accepts net (learnedWords call) new .0 learned-says .1
 
   -- the counts of a side add up to so many more as its activity occurs
-  pub call-adds-up : (side : Side) (a : ℕ) → total (countsOn (gives net call) side a) ≡ total (countsOn net side a) + occurrences (sequenceOf call) a
+  pub call-adds-up : (side : Side) (a : ℕ) → total (countsOn (gives net call) side a) ≡ total (countsOn net side a) + occurrencesOf (sequenceOf call) a
   call-adds-up side a =
-      subst (λ (n : Net). total (countsOn n side a) ≡ total (countsOn net side a) + occurrences (sequenceOf call) a) (sym (gives-learned net call))
-      (subst (λ (s : List Binding). total (countsOn (learnGives net (learnedWords call)) side a) ≡ total (countsOn net side a) + occurrences s a) (bindings-learned call) (learn-adds-up net (learnedWords call) new learned-says side a))
+      subst (λ (n : Net). total (countsOn n side a) ≡ total (countsOn net side a) + occurrencesOf (sequenceOf call) a) (sym (gives-learned net call))
+      (subst (λ (s : List Binding). total (countsOn (learnGives net (learnedWords call)) side a) ≡ total (countsOn net side a) + occurrencesOf s a) (bindings-learned call) (learn-adds-up net (learnedWords call) new learned-says side a))
 
   pub call-valid : Valid (gives net call) (sequenceOf call)
   call-valid =

@@ -4,7 +4,7 @@ use Prim.Native.Nat.{ℕ, zero, suc, _+_, _*_}
 use mathlib.Core.Path.{_≡_, refl}
 use mathlib.Core.List.{List, [], _∷_, _++_, map}
 use lib.Dec.{lit<}
-use lib.ListN.{replicate}
+use lib.ListN.{replicate, set}
 use Rattle.obligations.specs.Limits.{positions}
 use Rattle.obligations.specs.Tests.{number, firstFrom, firstFailing}
 use Rattle.obligations.specs.Sets.{bit, member, single, union, keep, membersFrom, members, size}
@@ -12,12 +12,13 @@ use Rattle.obligations.specs.State.{placesOf, inputs, outputs, allDue, lowered,
 use Rattle.obligations.specs.Trace.{firstNoActivity, endsAgree, shaped}
 use Rattle.obligations.specs.Sequence.{bindings, words, run, possibleAt, firstImpossible}
 use Rattle.obligations.specs.Examples.{fig4, trip}
+use Rattle.net.specs.Limits.{mostUses}
 use Rattle.net.specs.Lists.{allBelow, listed, allListed, ascendsAbove, zeros, insert, insertAt, placeIn}
 use Rattle.net.specs.Sides.{uncounted, setsOn, countsOn}
 use Rattle.net.specs.Orderly.{endsOk, blockOk, sidesOk, sized, orderly, countsOk, kindOk}
 use Rattle.net.specs.Fresh.{freshNet, freshGives}
 use Rattle.net.specs.Examples.{F, travel}
-use Rattle.net.specs.Put.{misplaced, sideSays, grows, putMasks, putLengths, putCounts}
+use Rattle.net.specs.Put.{misplaced, sideSays, grows, withSides, putMasks, putLengths, putCounts}
 use Rattle.net.specs.Contained.{sidesWithin, contained, containedMeans, containedSays}
 use Rattle.net.specs.declared.Side.the-variants.{Input, Output}
 use Rattle.net.specs.declared.ContainedAnswer.the-variants.{Yes, No}
@@ -78,6 +79,13 @@ F-counts :
     (countsOn net Output 0 ≡ 2 ∷ 1 ∷ 1 ∷ []) × (countsOn net Input 1 ≡ 3 ∷ []) × (countsOn net Output 2 ≡ 2 ∷ []) × (countsOn net Input 0 ≡ 4 ∷ []) × (countsOn net Output 3 ≡ 4 ∷ [])
 unfolding learnSays learnGives withinLimits wordsWithin bindings firstNoActivity firstFailing firstFrom learnPositions shaped endsAgree firstWronglyEmpty emptyAgree firstImpossible possibleAt possible run after taken added inputs outputs placesOf members membersFrom keep allDue lowered raised allZero fits takesBinding takesPut withBinding withUse gained topped toppedBinding toppedUse toppedAt raisedAt sideSays misplaced listed insert insertAt placeIn grows putMasks putLengths putCounts total freshNet orderly sized endsOk sidesOk blockOk countsOk kindOk allBelow ascendsAbove zeros followSays followGives traceWithinLimits followPositions followedFrom single grown
 F-counts = (refl, refl, refl, refl, refl)
+
+-- F in which 2 on the output side of 0 has the highest count: a session that uses it is refused by 21, and one that doesn't is not
+F-worn :
+    answers (withSides F Output (F .outputs) (F .«output_len») (set (F .«output_counts») 0 mostUses)) (follow (0 ∷ 1 ∷ 3 ∷ []) ∷ follow (0 ∷ 2 ∷ 3 ∷ []) ∷ [])
+    ≡ map learnMeans (Refused 21 0 ∷ Learned 0 ∷ [])
+unfolding learnSays learnGives withinLimits wordsWithin bindings firstNoActivity firstFailing firstFrom learnPositions shaped endsAgree firstWronglyEmpty emptyAgree firstImpossible possibleAt possible run after taken added inputs outputs placesOf members membersFrom keep allDue lowered raised allZero fits takesBinding takesPut withBinding withUse gained topped toppedBinding toppedUse toppedAt raisedAt sideSays misplaced listed insert insertAt placeIn grows putMasks putLengths putCounts total freshNet orderly sized endsOk sidesOk blockOk countsOk kindOk allBelow ascendsAbove zeros followSays followGives traceWithinLimits followPositions followedFrom single F answers
+F-worn = refl
 
 -- ---- passing nets that contain the grown net and that don't
 

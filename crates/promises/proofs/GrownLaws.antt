@@ -15,7 +15,7 @@ use Rattle.net.specs.Valid.{Valid}
 use Rattle.net.specs.declared.Net.{Net}
 use Rattle.net.specs.declared.Side.{Side}
 use Rattle.net.specs.declared.Side.the-variants.{Input, Output}
-use Rattle.sequences.specs.Gain.{SetOf, occurrences, Gains}
+use Rattle.sequences.specs.Gain.{SetOf, occurrencesOf, Gains}
 use Rattle.sequences.specs.Learn.{newSets}
 use Rattle.promises.specs.Calls.{Call, sequenceOf, says, gives, grown, AllWords}
 use Rattle.promises.specs.Promise.{usesIn, occurrencesIn}
@@ -56,7 +56,7 @@ formed-as {s} start end start′ end′ e f w = subst (λ (a : ℕ). WellFormed 
 
 -- one sequence more, before the others
 grown-more : (net next after : Net) (s : List Binding) (ss : List (List Binding)) → Valid next s → Gains net s next
-    → ((side : Side) (a : ℕ) → total (countsOn next side a) ≡ total (countsOn net side a) + occurrences s a) → Grown next after ss → Grown net after (s ∷ ss)
+    → ((side : Side) (a : ℕ) → total (countsOn next side a) ≡ total (countsOn net side a) + occurrencesOf s a) → Grown next after ss → Grown net after (s ∷ ss)
 unfolding usesIn occurrencesIn
 grown-more net next after s ss v g u r = record {
   same-start = r .same-start ∙ g .same-start;

@@ -1,4 +1,5 @@
--- Demand 3 (01, "Learning and containment"; 02, (viii)): one promise of every list of learning calls. The proof is in proofs/Theorems.antt.
+-- Demand 3 (01, "Learning and containment"; 02, (viii)): one promise of every list of learning calls. The proof is in
+-- proofs/Theorems.antt.
 use Prim.Native.Nat.{ℕ, _+_}
 use mathlib.Core.Path.{_≡_}
 use mathlib.Core.List.{List, [], _∷_, _++_, List·Memᴰ}
@@ -19,7 +20,7 @@ use Rattle.walks.specs.Arcs.{arcs}
 use Rattle.walks.specs.Walk.{Passes}
 use Rattle.walks.specs.Check.{checkMeans, checkSays}
 use Rattle.walks.specs.declared.CheckAnswer.the-variants.{Passed}
-use Rattle.sequences.specs.Gain.{uses, occurrences, Gains}
+use Rattle.sequences.specs.Gain.{uses, occurrencesOf, Gains}
 use Rattle.sequences.specs.Learn.{learnMeans}
 use Rattle.sequences.specs.declared.LearnAnswer.the-variants.{Learned, Refused}
 use Rattle.search.specs.Statements.{NoChoice}
@@ -52,7 +53,7 @@ usesIn side (s ∷ ss) a m = uses side s a m + usesIn side ss a m
 
 unfoldable pub occurrencesIn : List (List Binding) → ℕ → ℕ
 occurrencesIn [] a = 0
-occurrencesIn (s ∷ ss) a = occurrences s a + occurrencesIn ss a
+occurrencesIn (s ∷ ss) a = occurrencesOf s a + occurrencesIn ss a
 
 -- what is promised of a list of calls, the first of which is given the net `first`
 pub record Promise (first : Net) (calls : List Call) : Type 0 where

@@ -84,7 +84,7 @@ fn has_room(n: usize, room: usize) -> bool
 }
 
 // The replay of a trace in a net that has been checked, which refuses none, with the net's arrays lent, so that nothing is
-// copied.
+// copied. Counts have no part in it, and the contract speaks of the net with counts 0.
 pub fn replay_lent<'a>(
     start: u32,
     end: u32,

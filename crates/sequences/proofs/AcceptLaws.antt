@@ -18,7 +18,6 @@ use Rattle.obligations.proofs.PositionLaws.{pass-first, first-pass}
 use Rattle.obligations.proofs.TraceLaws.{agree-iff, shaped-facts, facts-shaped, activities-below, below-activities}
 use Rattle.obligations.proofs.SequenceLaws.{none-impossible, zero-left}
 use Rattle.net.specs.Orderly.{orderly}
-use Rattle.net.specs.Put.{misplaced}
 use Rattle.net.specs.declared.Net.{Net}
 use Rattle.net.proofs.OrderlyLaws.{orderly-facts, facts-orderly}
 use Rattle.net.proofs.PutSideLaws.{placed-one}

@@ -1,11 +1,11 @@
 -- The counts of a net after it gained a sequence: each set's has grown by the number of positions that use it, and those of a side
 -- add up to so many more as its activity occurs. None of them could not be raised exactly if none would be above its top: what a
 -- position finds is the old count and the uses before it. Assumes nothing.
-use Prim.Native.Nat.{ℕ, suc, _+_, _≤_, _<_}
+use Prim.Native.Nat.{ℕ, suc, _+_, _<_}
 use mathlib.Core.Path.{_≡_, refl, subst}
-use mathlib.Core.Bool.{true, false, _&&_}
+use mathlib.Core.Bool.{true, _&&_}
 use mathlib.Core.List.{List, [], _∷_}
-use mathlib.Core.Logic.{_↔_, inl, inr, ⊎-elim}
+use mathlib.Core.Logic.{_↔_, ⊎-elim}
 use native.Mathlib.Decide.{ℕ-discrete as decEq, decLt}
 use native.Mathlib.Omega.{arith}
 use borrow.Author.Tests.{eq-eqb, eqb-true, ne-eqb}
@@ -18,7 +18,7 @@ use Rattle.net.specs.Sides.{countsOn, countOf}
 use Rattle.net.specs.Orderly.{orderly}
 use Rattle.net.specs.declared.Net.{Net}
 use Rattle.net.specs.declared.Side.{Side}
-use Rattle.sequences.specs.Gain.{setFor, SetOf, uses, occurrences, Countable, toppedBinding, withBinding, gained, fits, topped, countable}
+use Rattle.sequences.specs.Gain.{setFor, SetOf, uses, occurrencesOf, Countable, toppedBinding, withBinding, gained, fits, topped, countable}
 use Rattle.sequences.proofs.GrowthLaws.{Activities, with-binding-orderly, topped-binding, with-binding-count, with-binding-sum, fits-first, fits-rest, set-first, set-later, set-cases}
 
 -- ---- uses
@@ -37,7 +37,7 @@ used-own t b a m h = elim (decEq (b .activity) a) [
 ]
 
 -- a sequence uses its own sets and no other
-pub set-used : (t : Side) (s : List Binding) (a m : ℕ) → SetOf t s a m → 0 < uses t s a m
+set-used : (t : Side) (s : List Binding) (a m : ℕ) → SetOf t s a m → 0 < uses t s a m
 unfolding uses
 set-used t [] a m f = absurd (omega (arith, f .inside))
 set-used t (b ∷ s) a m f = ⊎-elim (λ w. omega (arith, own-use t b a m (w .0) (w .1))) (λ w. omega (arith, set-used t s a m w)) (set-cases t b s f)
@@ -53,11 +53,11 @@ used-set t (b ∷ s) a m h = elim (decLt 0 (uses t s a m)) [
 -- ---- the counts after a sequence
 
 module _ (net : Net) (b : Binding) (s : List Binding) (z : topped net (b ∷ s) ≡ 0) where
-  pub first-clear : toppedBinding net b ≡ 0
+  first-clear : toppedBinding net b ≡ 0
   unfolding topped
   first-clear = omega arith
 
-  pub rest-clear : topped (withBinding net b) s ≡ 0
+  rest-clear : topped (withBinding net b) s ≡ 0
   unfolding topped
   rest-clear = omega arith
 
@@ -73,8 +73,8 @@ gained-count net (b ∷ s) o h f z t a m =
     )
 
 pub gained-sum : (net : Net) (s : List Binding) → orderly net ≡ true → Activities s → fits net s ≡ true → topped net s ≡ 0 → (t : Side) (a : ℕ)
-    → total (countsOn (gained net s) t a) ≡ total (countsOn net t a) + occurrences s a
-unfolding gained occurrences
+    → total (countsOn (gained net s) t a) ≡ total (countsOn net t a) + occurrencesOf s a
+unfolding gained occurrencesOf
 gained-sum net [] o h f z t a = omega arith
 gained-sum net (b ∷ s) o h f z t a =
     let k = fits-first net b s f in

@@ -2,7 +2,7 @@
 -- that following is learning it. Each position takes the one obligation that the one before it handed on. Assumes nothing.
 use Prim.Native.Nat.{ℕ, zero, suc, _+_, _*_, _^_, _≤_, _<_}
 use mathlib.Core.Path.{_≡_, refl, sym, ap, subst, _∙_}
-use mathlib.Core.Bool.{Bool, true, false, cond}
+use mathlib.Core.Bool.{true, false}
 use mathlib.Core.List.{List, [], _∷_}
 use mathlib.Core.Logic.{⊎-elim}
 use native.Mathlib.Numerals.{add-one, add-two, add-three}
@@ -11,7 +11,7 @@ use borrow.Author.Tests.{lt-ltb, le-ltb}
 use lib.ListN.{length, getD, take, drop, drop-of-length-le}
 use lib.Seq.{drop-cons, sets, sets-eq, take-at}
 use Rattle.obligations.specs.Sets.{single}
-use Rattle.obligations.specs.State.{nothing, added, after}
+use Rattle.obligations.specs.State.{nothing, added}
 use Rattle.obligations.specs.Sequence.{Binding, words, at, completes}
 use Rattle.obligations.proofs.BoolLaws.{and-both}
 use Rattle.obligations.proofs.SetLaws.{single-lt, lt-or-le}

@@ -16,8 +16,8 @@ use Rattle.obligations.proofs.BoolLaws.{true-or-false, false-not-true}
 use Rattle.obligations.specs.Limits.{activities}
 use Rattle.net.specs.Limits.{places, mostUses}
 use Rattle.net.specs.Refusals.{Says, accepted, refused}
-use Rattle.net.specs.Sides.{netSize}
-use Rattle.net.specs.Inner.{OrderlySides, placeOn, placedMeans, CountedDone}
+use Rattle.net.specs.Sides.{netSize, placeOn}
+use Rattle.net.specs.Inner.{OrderlySides, placedMeans, CountedDone}
 use Rattle.net.specs.Orderly.{orderly}
 use Rattle.net.specs.Put.{sideSays, putMasks, putLengths, putCounts}
 use Rattle.net.specs.declared.Net.{Net}

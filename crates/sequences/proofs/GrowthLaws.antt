@@ -1,6 +1,7 @@
 -- The net after it gained a sequence's sets: it is orderly, has the same start and end and no fewer sets, and each side holds
 -- exactly what it held and what the sequence has for it. Beside the counts each use is one of `net`'s puts, so its laws carry over
--- position by position. Assumes nothing.
+-- position by position. Of the counts a put changes none, and the raise behind it adds one to its set's, if that is below its top.
+-- Assumes nothing.
 use Prim.Native.Nat.{ℕ, zero, suc, _+_, _≤_, _<_}
 use mathlib.Core.Path.{_≡_, refl, sym, ap, _∙_}
 use mathlib.Core.Bool.{true, _&&_}
@@ -15,8 +16,8 @@ use Rattle.obligations.specs.Sequence.{Binding, at}
 use Rattle.obligations.proofs.BoolLaws.{and-left, and-right, true-or-false}
 use Rattle.net.specs.Limits.{mostUses}
 use Rattle.net.specs.Lists.{listed}
-use Rattle.net.specs.Sides.{masksOf, lengthsOf, countsOf, emptyAt, opposite, sideIn, setsOn, countsOn, countIn, countOf, OnSide, netSize}
-use Rattle.net.specs.Inner.{OrderlySides, placeOn}
+use Rattle.net.specs.Sides.{masksOf, lengthsOf, countsOf, emptyAt, opposite, sideIn, setsOn, countsOn, countIn, countOf, OnSide, netSize, placeOn}
+use Rattle.net.specs.Inner.{OrderlySides}
 use Rattle.net.specs.Orderly.{orderly}
 use Rattle.net.specs.Put.{putSays, putMasks, putLengths, putCounts, withSides, putGives}
 use Rattle.net.specs.Contained.{Contained}
@@ -61,7 +62,7 @@ module _ (net : Net) (side : Side) (a m : ℕ) (o : orderly net ≡ true) (h : a
       go Output Input = refl
       go Output Output = refl
 
-  pub takes-put : takesPut net side a m ≡ putSays net side a m .ok
+  takes-put : takesPut net side a m ≡ putSays net side a m .ok
   unfolding takesPut
   takes-put = sym (ap (λ s. s .ok) (put-says-side net side a m o h))
 
@@ -90,14 +91,14 @@ module _ (net : Net) (side : Side) (a m : ℕ) (o : orderly net ≡ true) (h : a
     said : putSays net side a m .ok ≡ true
     said = sym takes-put ∙ k
 
-    pub with-use-orderly : orderly (withUse net side a m) ≡ true
+    with-use-orderly : orderly (withUse net side a m) ≡ true
     unfolding withUse
     with-use-orderly = with-orderly net masks′ lengths′ raised side o sides-after (raised-counts k)
 
-    pub with-use-on-side : (t : Side) (b x : ℕ) → OnSide (withUse net side a m) t b x ↔ (OnSide net t b x ⊎ ((t ≡ side) × (b ≡ a) × (x ≡ m)))
+    with-use-on-side : (t : Side) (b x : ℕ) → OnSide (withUse net side a m) t b x ↔ (OnSide net t b x ⊎ ((t ≡ side) × (b ≡ a) × (x ≡ m)))
     with-use-on-side t b x = rw (same-sets t b) (put-on-side net side a m said t b x)
 
-  pub with-use-contained : Contained net (withUse net side a m)
+  with-use-contained : Contained net (withUse net side a m)
   unfolding withUse
   with-use-contained = record {
     same-start = sym (with-start net masks′ lengths′ raised side);
@@ -130,7 +131,7 @@ module _ (net : Net) (side : Side) (a m : ℕ) (o : orderly net ≡ true) (h : a
     topped-is = rw kept-place
 
     -- it could be raised exactly if it was below its top
-    pub topped-use : (toppedUse net side a m ≡ 0) ↔ (countOf net side a m < mostUses)
+    topped-use : (toppedUse net side a m ≡ 0) ↔ (countOf net side a m < mostUses)
     topped-use =
         let f = topped-exactly masks′ lengths′ counts′ (emptyAt net side) a m sides-after counts-after h (there k) in (
           (λ z. rw (after-put a m) at (f .0 (sym topped-is ∙ z))),
@@ -141,13 +142,13 @@ module _ (net : Net) (side : Side) (a m : ℕ) (o : orderly net ≡ true) (h : a
       clear : toppedAt counts′ (placeOn masks′ lengths′ a m) ≡ 0
       clear = sym topped-is ∙ z
 
-      pub with-use-count : (b x : ℕ) → countOf (withUse net side a m) side b x ≡ countOf net side b x + indicator (eqb a b && eqb m x)
+      with-use-count : (b x : ℕ) → countOf (withUse net side a m) side b x ≡ countOf net side b x + indicator (eqb a b && eqb m x)
       unfolding withUse
       with-use-count b x =
           rw (sets-are net masks′ lengths′ raised side b, counts-are net masks′ lengths′ raised side b, raised-is)
           (raised-count masks′ lengths′ counts′ (emptyAt net side) a m sides-after counts-after h (there k) clear b x ∙ rw (after-put b x))
 
-      pub with-use-sum : (b : ℕ) → total (countsOn (withUse net side a m) side b) ≡ total (countsOn net side b) + indicator (eqb a b)
+      with-use-sum : (b : ℕ) → total (countsOn (withUse net side a m) side b) ≡ total (countsOn net side b) + indicator (eqb a b)
       unfolding withUse
       with-use-sum b =
           rw (counts-are net masks′ lengths′ raised side b, raised-is)
@@ -155,12 +156,12 @@ module _ (net : Net) (side : Side) (a m : ℕ) (o : orderly net ≡ true) (h : a
           ∙ rw (put-side-sum (masksOf net side) (lengthsOf net side) (countsOf net side) (emptyAt net side) a m (orderly-sides net o side) (orderly-counts net o side) h b))
 
 -- a use leaves the sides of the other kind as they are
-pub other-count : (net : Net) (side : Side) (a m b x : ℕ) → countOf (withUse net side a m) (opposite side) b x ≡ countOf net (opposite side) b x
+other-count : (net : Net) (side : Side) (a m b x : ℕ) → countOf (withUse net side a m) (opposite side) b x ≡ countOf net (opposite side) b x
 unfolding withUse
 other-count net Input a m b x = refl
 other-count net Output a m b x = refl
 
-pub other-sum : (net : Net) (side : Side) (a m b : ℕ) → total (countsOn (withUse net side a m) (opposite side) b) ≡ total (countsOn net (opposite side) b)
+other-sum : (net : Net) (side : Side) (a m b : ℕ) → total (countsOn (withUse net side a m) (opposite side) b) ≡ total (countsOn net (opposite side) b)
 unfolding withUse
 other-sum net Input a m b = refl
 other-sum net Output a m b = refl

@@ -3,8 +3,8 @@
 use Prim.Native.Nat.{ℕ, _+_, _*_, _-_, _<_, _≤_}
 use native.Mathlib.Decide.{ℕ-discrete as decEq, decLt}
 use native.Mathlib.Omega.{arith}
-use mathlib.Core.Path.{_≡_, refl, sym, ap, _∙_}
-use mathlib.Core.Bool.{Bool, true, false, _&&_}
+use mathlib.Core.Path.{_≡_, refl, sym, _∙_}
+use mathlib.Core.Bool.{true, _&&_}
 use mathlib.Core.List.{List}
 use mathlib.Core.Logic.{_↔_, ⊎-elim}
 use lib.Dec.{eqb, ltb}
@@ -16,10 +16,10 @@ use Rattle.obligations.specs.Tests.{indicator}
 use Rattle.obligations.specs.State.{total}
 use Rattle.obligations.proofs.BoolLaws.{true-or-false}
 use Rattle.obligations.proofs.TotalLaws.{total-raise}
-use Rattle.net.specs.Limits.{sets, places, mostUses}
-use Rattle.net.specs.Lists.{listed, placeIn, zeros}
-use Rattle.net.specs.Sides.{block, sideIn, countIn}
-use Rattle.net.specs.Inner.{OrderlySides, placeOn}
+use Rattle.net.specs.Limits.{sets, mostUses}
+use Rattle.net.specs.Lists.{listed, placeIn}
+use Rattle.net.specs.Sides.{block, sideIn, countIn, placeOn}
+use Rattle.net.specs.Inner.{OrderlySides}
 use Rattle.net.specs.Put.{grows, sideSays, grownMasks, grownLengths, putMasks, putLengths}
 use Rattle.net.proofs.PlaceLaws.{listed-place, count-at, count-raise}
 use Rattle.net.proofs.SideLaws.{OrderlyCounts, counts-past, past-counts, length-side, side-at, side-at-most, side-ascending}

@@ -14,9 +14,8 @@ use Rattle.net.specs.Limits.{sets, mostUses}
 use Rattle.net.specs.Lists.{AtMost}
 use Rattle.net.specs.Refusals.{full-side, count-too-high}
 use Rattle.net.specs.Sentences.{Sentence, whole}
-use Rattle.net.specs.Sides.{masksOf, lengthsOf, countsOf, emptyAt, countOf, OnSide}
+use Rattle.net.specs.Sides.{masksOf, lengthsOf, countsOf, emptyAt, countOf, OnSide, placeOn}
 use Rattle.net.specs.Orderly.{Orderly}
-use Rattle.net.specs.Inner.{placeOn}
 use Rattle.net.specs.Put.{sideSays, putMasks, putLengths, putCounts, withSides}
 use Rattle.net.specs.declared.Net.{Net}
 use Rattle.net.specs.declared.Side.{Side}
@@ -42,9 +41,9 @@ uses side [] a m = 0
 uses side (b ∷ s) a m = indicator (eqb (b .activity) a && eqb (setFor side b) m) + uses side s a m
 
 -- in how many of the positions activity a occurs
-unfoldable pub occurrences : List Binding → ℕ → ℕ
-occurrences [] a = 0
-occurrences (b ∷ s) a = indicator (eqb (b .activity) a) + occurrences s a
+unfoldable pub occurrencesOf : List Binding → ℕ → ℕ
+occurrencesOf [] a = 0
+occurrencesOf (b ∷ s) a = indicator (eqb (b .activity) a) + occurrencesOf s a
 
 -- the second net is the first with exactly the sequence's sets more, and with their uses counted
 pub record Gains (net : Net) (s : List Binding) (after : Net) : Type 0 where

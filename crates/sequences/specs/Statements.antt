@@ -1,5 +1,6 @@
 -- What is proved of the definitions: each call is refused as listed, which sequences are learned and judged valid, what the net
--- then holds, and that following is learning. The proofs are in proofs/Theorems.antt.
+-- then holds and has counted, that following is learning, and that judge passes over counts. The proofs are in
+-- proofs/Theorems.antt.
 use Prim.Native.Nat.{ℕ, _+_, _*_, _≤_, _<_}
 use mathlib.Core.Path.{_≡_}
 use mathlib.Core.Bool.{true}
@@ -21,7 +22,7 @@ use Rattle.walks.specs.Walk.{Passes}
 use Rattle.walks.specs.Check.{onNoWalk, Unanswered}
 use Rattle.sequences.specs.Limits.{activityOf, notSequence}
 use Rattle.sequences.specs.Run.{totalAfter, Peak, largestTotal, outputSizes}
-use Rattle.sequences.specs.Gain.{occurrences, Fits, Countable, Gains, fits, countable}
+use Rattle.sequences.specs.Gain.{occurrencesOf, Fits, Countable, Gains, fits, countable}
 use Rattle.sequences.specs.Learn.{learnMeans, learnRefusals, learnSays, learnGives}
 use Rattle.sequences.specs.Judge.{judgeMeans, judgeRefusals, judgeSays}
 use Rattle.sequences.specs.Follow.{followed, followRefusals, followSays, followGives}
@@ -60,7 +61,7 @@ pub record Learnable (net : Net) (ws : List ℕ) : Type 0 where
   pub fitting : Fits net (bindings ws)
   pub counting : Countable net (bindings ws)
 
--- "well-formed and fits, which together mean that no refusal in these papers holds of the call"
+-- "well-formed and fits, which together mean that no refusal in these papers holds of the call", and since 02, (viii), countable
 abbrev pub NoneHoldsLearnable : Type 0
 NoneHoldsLearnable = (net : Net) (ws : List ℕ) → NoneHolds (learnRefusals net ws) ↔ Learnable net ws
 
@@ -74,7 +75,7 @@ LearnAccepts =
 abbrev pub FitsTestRight : Type 0
 FitsTestRight = (net : Net) (s : List Binding) → Orderly net → WellFormed (net .start) (net .end) s → (fits net s ≡ true) ↔ Fits net s
 
--- and the test that its uses can be counted
+-- and the test that its uses can be counted, of one that also fits
 abbrev pub CountableTestRight : Type 0
 CountableTestRight = (net : Net) (s : List Binding) → Orderly net → WellFormed (net .start) (net .end) s → fits net s ≡ true → (countable net s ≡ true) ↔ Countable net s
 
@@ -82,11 +83,11 @@ CountableTestRight = (net : Net) (s : List Binding) → Orderly net → WellForm
 abbrev pub LearnHolds : Type 0
 LearnHolds = (net : Net) (ws : List ℕ) (new : ℕ) → learnSays net ws ≡ learnMeans (Learned new) → Gains net (bindings ws) (learnGives net ws)
 
--- the counts on each side of an activity then add up to so many more as the activity occurs in the sequence
+-- the counts on each side of an activity then add up to as many more as the activity has occurrences in the sequence
 abbrev pub LearnAddsUp : Type 0
 LearnAddsUp =
     (net : Net) (ws : List ℕ) (new : ℕ) → learnSays net ws ≡ learnMeans (Learned new)
-    → (side : Side) (a : ℕ) → total (countsOn (learnGives net ws) side a) ≡ total (countsOn net side a) + occurrences (bindings ws) a
+    → (side : Side) (a : ℕ) → total (countsOn (learnGives net ws) side a) ≡ total (countsOn net side a) + occurrencesOf (bindings ws) a
 
 -- an accepted sequence is valid in the net that learn returns
 abbrev pub LearnValid : Type 0
@@ -138,7 +139,7 @@ PeakWithin =
 abbrev pub PeakBelow : Type 0
 PeakBelow = (net : Net) (ws : List ℕ) (peak : ℕ) → judgeSays net ws ≡ judgeMeans (judge.Judged peak) → peak < activities * positions
 
--- judge passes over the counts of an orderly record (02, (viii))
+-- judge passes over the counts of orderly records (02, (viii))
 abbrev pub JudgePassesOver : Type 0
 JudgePassesOver = (net other : Net) (ws : List ℕ) → Orderly net → Orderly other → SameButCounts net other → judgeSays net ws ≡ judgeSays other ws
 

@@ -23,7 +23,7 @@ ghost use Rattle.sequences.specs.Inner.{WithinLimits, Raised, SetGained,
 // What a position's set does to its side.
 enum Gained {
     // How many sets it adds, and how many counts are at their top and can't be raised: each 0 or 1.
-    Added(u32, u32),
+    Added { sets: u32, topped: u32 },
     // The side can't take the set.
     NoRoom,
 }
@@ -57,7 +57,7 @@ pub fn gain(net: Net, words: &[u32], n: usize) -> LearnResult
             a,
             words[at + 1],
         );
-        let Gained::Added(x, u) = input else {
+        let Gained::Added { sets: x, topped: u } = input else {
             return refuse(net, refusal::FULL_SIDE, 0);
         };
         let output = gain_set(
@@ -68,7 +68,7 @@ pub fn gain(net: Net, words: &[u32], n: usize) -> LearnResult
             a,
             words[at + 2],
         );
-        let Gained::Added(y, v) = output else {
+        let Gained::Added { sets: y, topped: v } = output else {
             return refuse(net, refusal::FULL_SIDE, 0);
         };
         new += x + y;
@@ -122,8 +122,14 @@ fn gain_set(
 {
     let placed = put_counted(masks, lengths, counts, empty, a, m);
     match placed {
-        Placed::New(at) => Gained::Added(1, raise(counts, at)),
-        Placed::Present(at) => Gained::Added(0, raise(counts, at)),
+        Placed::New(at) => Gained::Added {
+            sets: 1,
+            topped: raise(counts, at),
+        },
+        Placed::Present(at) => Gained::Added {
+            sets: 0,
+            topped: raise(counts, at),
+        },
         Placed::Refused {
             number: _,
             place: _,

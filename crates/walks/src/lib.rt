@@ -58,7 +58,8 @@ pub fn check(net: Net) -> CheckAnswer
     )
 }
 
-// The check of an orderly net, with its arrays lent, so that it isn't copied. Callers that have tested the record call this.
+// The check of an orderly net, with its arrays lent, so that it isn't copied. Callers that have tested the record call this. Counts
+// have no part in it, and the contract speaks of the net with counts 0.
 pub fn check_lent<'a>(
     start: u32,
     end: u32,

@@ -1,5 +1,5 @@
--- `read_rows` meets its contract. The loop's invariant: the arrays are those of an orderly net without counts, and what the rows say is what the
--- rows left say from that net on. Assumes nothing.
+-- `read_rows` meets its contract. The loop's invariant: the arrays are those of an orderly net with counts 0, and what the rows say
+-- is what the rows left say from that net on. Assumes nothing.
 use Prim.Native.Nat.{_+_, _-_, _≤_}
 use mathlib.Core.Path.{_≡_, refl, sym, ap, _∙_}
 use mathlib.Core.Bool.{true}

@@ -1,7 +1,7 @@
 -- `gain_set` meets its contract, case by case of what `put_counted` answers, and a raise where the set is on its side. Assumes
 -- nothing.
 use borrow.Author.Needs.{needs}
-use mathlib.Core.Path.{_≡_, _∙_, ap}
+use mathlib.Core.Path.{_∙_, ap}
 use mathlib.Core.Logic.{inl, inr}
 use lib.ListN.{length}
 use Rattle.net.proofs.PutSideLaws.{length-put-counts}
