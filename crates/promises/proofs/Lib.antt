@@ -7,4 +7,3 @@ pub mod PassLaws
 pub mod WithinLaws
 pub mod ReplayLaws
 pub mod Theorems
-pub mod Examples

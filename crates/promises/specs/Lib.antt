@@ -1,5 +1,4 @@
--- Lists of calls, what a replay answers, the promise made of every list, and the marked examples. A reader of 01 needs all.
+-- Lists of calls, what a replay answers, and the promise made of every list. A reader of 01 needs all.
 pub mod Calls
 pub mod Replays
 pub mod Promise
-pub mod Marked

@@ -38,8 +38,8 @@ use Rattle.search.specs.Search.{trialsOf, later, orElse, behind, trialIf, trial
 use Rattle.search.specs.Trace.{hasRoom}
 use Rattle.search.specs.Replay.{endSays, replayed, withinBudget, checkedSays, replayTests, replaySays}
 use Rattle.sequences.proofs.Theorems.{largest-is-peak}
 use Rattle.promises.specs.Calls.{Call, learn, follow, grown, answers}
-use Rattle.promises.specs.Marked.{Marked, MarkedPeak, session, detour, MarkedLongest}
+use Rattle.marked.specs.Marked.{Marked, MarkedPeak, session, detour, MarkedLongest}
 
 -- the marked examples
 pub marked : Marked
