@@ -2,6 +2,8 @@
 // by its number. One line is printed: the call's name, and the sum of the answers of so many calls. With no arguments there
 // is such a line for every call, of a few calls each.
 
+#![tactic(auto)]
+
 mod nets;
 mod texts;
 

@@ -1,5 +1,7 @@
 // Learns a checkout, checks it and replays two sessions on it. The steps are 0 cart, 1 address, 2 payment, 3 order.
 
+#![tactic(auto)]
+
 use libc::STDOUT_FILENO;
 use net::Net;
 use obligations::SEQUENCE_WORDS;

@@ -1,6 +1,8 @@
 // The report of two files, printed. What is printed is decided by the crate `report`; here the two files are read, each
 // when 01's order comes to it, and the report is written.
 
+#![tactic(auto)]
+
 ghost use Rattle.net.specs.Orderly.{orderly};
 ghost use Rattle.std.specs.Prelude.{◌≡◌, true};
 

@@ -4,6 +4,8 @@
 //
 // No contract of the C library says what a file holds, so the contracts here give lengths only.
 
+#![tactic(auto)]
+
 mod moving;
 
 ghost use Rattle.io.specs.Counts.{IsPrefixLen};

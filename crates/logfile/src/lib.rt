@@ -1,6 +1,8 @@
 // Log files (paper 01, "The tables"): `sessions,trace`, then rows. A row is read by its number, or row after row with a
 // cursor, in time that is proportional to the bytes passed. Nothing is written before a row has been read in full.
 
+#![tactic(auto)]
+
 mod row;
 
 ghost use Rattle.std.specs.Prelude.{◌≡◌, ◌≤◌, min, length};

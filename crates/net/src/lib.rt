@@ -1,6 +1,8 @@
 // The causal net (paper 01, "The net and its sets", "Learning and containment"): the record, and the calls fresh, put and
 // contained. Each call takes every record and refuses what the paper refuses.
 
+#![tactic(auto)]
+
 mod containment;
 mod lists;
 mod making;

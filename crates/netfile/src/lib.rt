@@ -2,6 +2,8 @@
 // the text that puts each row's set into arrays in place. Writing finds the text's length first, so that a buffer that is
 // too short is left alone.
 
+#![tactic(auto)]
+
 mod line;
 mod read;
 mod width;

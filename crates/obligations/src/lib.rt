@@ -2,6 +2,8 @@
 // sets" and "Obligations and the step"). The lowest layer: what stands above uses only these contracts and the laws
 // about the definitions in specs/.
 
+#![tactic(auto)]
+
 pub mod sets;
 pub mod state;
 pub mod trace;

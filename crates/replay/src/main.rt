@@ -1,5 +1,7 @@
 // Reads net.csv and log.csv in the current folder and prints the report of them (paper 01, "The tables").
 
+#![tactic(auto)]
+
 fn main() {
     if file_report::print_report(b"net.csv", b"log.csv") {
         files::close_output();

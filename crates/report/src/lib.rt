@@ -2,6 +2,8 @@
 // bytes of a report. The net is read and checked once; only then is the log looked at. It is read twice: once for a fault
 // anywhere in it, before anything is written, and once row after row.
 
+#![tactic(auto)]
+
 mod write;
 
 ghost use Rattle.std.specs.Prelude.{◌≡◌, true, ◌+◌, ◌≤◌, length};

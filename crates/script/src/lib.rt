@@ -4,6 +4,8 @@
 //
 // This is a test tool. It is proved safe and to end; what a call answers is what the call's own contract says.
 
+#![tactic(auto)]
+
 mod line;
 mod net_calls;
 mod sequence_calls;

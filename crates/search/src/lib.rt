@@ -1,6 +1,8 @@
 // Replay (paper 01, "Replay"): whether some choice of a net's bindings makes a trace valid, found by a search that goes
 // back, within a budget of trials.
 
+#![tactic(auto)]
+
 mod backtrack;
 mod replaying;
 

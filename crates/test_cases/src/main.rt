@@ -2,6 +2,8 @@
 // What is printed is compared: for cases 1 to 40 with what an independent implementation of the papers says of them, for the
 // others, made by tests/cases/make, with what follows from the papers by hand.
 
+#![tactic(auto)]
+
 const CASES: u8 = 63;
 
 // Prints the report of one case.

@@ -1,6 +1,8 @@
 // Runs a script of calls on standard input; its answers are compared with those of an independent implementation of the
 // papers.
 
+#![tactic(auto)]
+
 fn main() {
     script::run_script();
 }

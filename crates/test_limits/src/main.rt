@@ -1,6 +1,8 @@
 // Runs a script of calls on standard input: each limit at, below and above it, each refusal of each call, and disorderly
 // records of every kind. Its answers are compared with those that were derived from the papers by hand.
 
+#![tactic(auto)]
+
 fn main() {
     script::run_script();
 }

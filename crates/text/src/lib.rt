@@ -4,6 +4,8 @@
 // A reader takes a text s and the part s[i..e] of it. A writer takes a buffer with room for its text, stores the text
 // from an index on, and returns the index after it.
 
+#![tactic(auto)]
+
 pub mod bytes;
 pub mod decimal;
 pub mod lines;

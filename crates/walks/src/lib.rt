@@ -1,6 +1,8 @@
 // The net check (paper 01, "Net check and judge"; paper 02, (iv)): whether each activity of a net is on a walk along arcs from start
 // to end, and every name is answered.
 
+#![tactic(auto)]
+
 mod arcs;
 mod reach;
 

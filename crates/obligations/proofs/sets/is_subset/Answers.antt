@@ -1,0 +1,11 @@
+-- `is_subset` meets its contract: nothing of the set is left without the other. Assumes nothing.
+use borrow.Author.Rules.{rules}
+use Prim.Native.Nat.{ℕ}
+use mathlib.Core.Path.{ap}
+use lib.Dec.{eqb}
+use Rattle.obligations.specs.Sets.{subset}
+use Rattle.obligations.proofs.sets.is_subset.Goals as goal
+
+pub returns : goal.returns
+unfolding subset
+returns c = ap (λ (n : ℕ). eqb n 0) c.minus.ensures

@@ -1,0 +1,8 @@
+-- `union` meets its contract, which is the machine's operation. Assumes nothing.
+use mathlib.Core.Path.{refl}
+use Rattle.obligations.specs.Sets.{union}
+use Rattle.obligations.proofs.sets.union.Goals as goal
+
+pub returns : goal.returns
+unfolding union
+returns c = refl
