@@ -10,7 +10,7 @@ use libc::EINTR;
 const TRIES: u32 = 1000;
 
 // How many bytes stand at the buffer's front, and whether nothing failed.
-#[derive(Drop)]
+#[derive(Clone, Copy)]
 pub struct Reading {
     pub count: usize,
     pub whole: bool,
