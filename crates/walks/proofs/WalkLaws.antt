@@ -3,15 +3,14 @@
 use Prim.Native.Nat.{ℕ, ◌<◌}
 use mathlib.Core.Path.{◌≡◌, sym, ◌∙◌}
 use mathlib.Core.Logic.{◌↔◌, ⊎_elim}
-use mathlib.Core.Bool.{true, false, not, ◌&&◌, ◌||◌}
+use mathlib.Core.Bool.{true, not, ◌&&◌, ◌||◌}
 use native.Mathlib.Omega.{arith}
 use borrow.Author.Tests.{eq-eqb, eqb-true, eqb-false, not-true}
 use lib.Dec.{eqb}
-use lib.ListN.{length, get_or}
+use lib.ListN.{get_or}
 use Rattle.obligations.specs.Sets.{member}
 use Rattle.obligations.proofs.BoolLaws.{true_or_false, false-not-true, and_left, and_right, and_both, or_left, or_right, or_cases}
 use Rattle.obligations.proofs.SetLaws.{lt_or_le}
-use Rattle.net.specs.Lists.{listed}
 use Rattle.net.specs.Sides.{lengths_of, sets_on, OnSide}
 use Rattle.net.specs.Orderly.{orderly}
 use Rattle.net.specs.declared.Net.{Net}

@@ -1,6 +1,5 @@
 -- `check_lent` meets its contract: the rows are the net's arcs, the union has the net's activities, and what is told of them is what
 -- the check says. Assumes nothing.
-use borrow.Author.Rules.{rules}
 use Prim.Native.Nat.{ℕ, ◌<◌}
 use mathlib.Core.Path.{ap, ap₂, ◌∙◌}
 use mathlib.Core.List.{List}
@@ -17,21 +16,21 @@ use Rattle.walks.proofs.check_lent.Goals as goal
 pub named_rows-input_names-requires : goal.named_rows-input_names-requires
 named_rows-input_names-requires c =
     let net-of : Net =
-        net_of c.args.start c.args.end c.args.inputs.now c.args.input_len.now c.args.outputs.now c.args.output_len.now in
+    net_of c.args.start c.args.end c.args.inputs.now c.args.input_len.now c.args.outputs.now c.args.output_len.now in
     orderly_arrays net-of c.requires Input
 
 pub named_rows-output_names-requires : goal.named_rows-output_names-requires
 named_rows-output_names-requires c =
     let net-of : Net =
-        net_of c.args.start c.args.end c.args.inputs.now c.args.input_len.now c.args.outputs.now c.args.output_len.now in
+    net_of c.args.start c.args.end c.args.inputs.now c.args.input_len.now c.args.outputs.now c.args.output_len.now in
     orderly_arrays net-of c.requires Output
 
 pub survey_rows-survey-requires : goal.survey_rows-survey-requires
 survey_rows-survey-requires c =
     let net-of : Net =
-        net_of c.args.start c.args.end c.args.inputs.now c.args.input_len.now c.args.outputs.now c.args.output_len.now in
+    net_of c.args.start c.args.end c.args.inputs.now c.args.input_len.now c.args.outputs.now c.args.output_len.now in
     let ends : (c.args.start < 32) × (c.args.end < 32) =
-        let e = ends_facts c.args.start c.args.end (orderly_ends net-of c.requires) in (e.0, e.1) in
+    let e = ends_facts c.args.start c.args.end (orderly_ends net-of c.requires) in (e.0, e.1) in
     record {
       inputs_len = (ap length c.named_rows-input_names.ensures ∙ named_rows-long _ _, ap length c.named_rows-output_names.ensures ∙ named_rows-long _ _);
       start_lt_activities = ends;
@@ -40,9 +39,9 @@ survey_rows-survey-requires c =
 pub returns : goal.returns
 returns c =
     let net-of : Net =
-        net_of c.args.start c.args.end c.args.inputs.now c.args.input_len.now c.args.outputs.now c.args.output_len.now in
+    net_of c.args.start c.args.end c.args.inputs.now c.args.input_len.now c.args.outputs.now c.args.output_len.now in
     let ends : (c.args.start < 32) × (c.args.end < 32) =
-        let e = ends_facts c.args.start c.args.end (orderly_ends net-of c.requires) in (e.0, e.1) in
+    let e = ends_facts c.args.start c.args.end (orderly_ends net-of c.requires) in (e.0, e.1) in
     let net = net-of in
     let ends-here = ends in
     let i = c.named_rows-input_names.ensures in

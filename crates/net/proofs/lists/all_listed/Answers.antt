@@ -1,12 +1,8 @@
 -- `all_listed` meets its contract: the loop keeps that the answer for the whole list is the answer for the rest.
 -- Assumes nothing.
-use borrow.Author.Rules.{rules}
-use Prim.Native.Nat.{◌≤◌, ◌-◌}
 use native.Mathlib.Omega.{arith}
-use mathlib.Core.Path.{◌≡◌, sym, ◌∙◌}
-use lib.ListN.{length, drop}
+use mathlib.Core.Path.{sym, ◌∙◌}
 use borrow.Author.Tests.{not-true, not-false}
-use Rattle.net.specs.Lists.{all_listed}
 use Rattle.net.proofs.ListLaws.{all_listed_stop, all_listed-next, all_listed-end}
 use Rattle.net.proofs.lists.all_listed.Goals as goal
 

@@ -1,13 +1,10 @@
 -- `all_zero` meets its contract: the loop keeps that the whole list is zero exactly if the elements passed have no bit and the rest
 -- is zero. Assumes nothing.
 use borrow.Author.Rules.{rules}
-use Prim.Native.Nat.{◌≤◌, ◌-◌}
 use native.Mathlib.Omega.{arith}
 use mathlib.Core.Bool.{◌&&◌, and-true}
-use mathlib.Core.Path.{◌≡◌, refl, sym, ap, ◌∙◌}
+use mathlib.Core.Path.{sym, ap, ◌∙◌}
 use lib.Dec.{eqb}
-use lib.ListN.{length, drop}
-use Rattle.net.specs.Lists.{zeros}
 use Rattle.net.proofs.ListLaws.{zeros-next, zeros-end}
 use Rattle.net.proofs.lists.all_zero.Goals as goal
 

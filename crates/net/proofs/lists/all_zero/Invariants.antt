@@ -1,12 +1,9 @@
-use borrow.Author.Rules.{rules}
 use Prim.Native.Nat.{◌≤◌, ◌-◌}
-use native.Mathlib.Omega.{arith}
-use mathlib.Core.Bool.{◌&&◌, and-true}
-use mathlib.Core.Path.{◌≡◌, refl, sym, ap, ◌∙◌}
+use mathlib.Core.Bool.{◌&&◌}
+use mathlib.Core.Path.{◌≡◌}
 use lib.Dec.{eqb}
 use lib.ListN.{length, drop}
 use Rattle.net.specs.Lists.{zeros}
-use Rattle.net.proofs.ListLaws.{zeros-next, zeros-end}
 use Rattle.net.proofs.lists.all_zero.Given as goal
 
 abbrev pub invariant-loop-i : goal.invariant-loop-i

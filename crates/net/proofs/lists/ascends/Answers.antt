@@ -1,11 +1,8 @@
 -- `ascends` meets its contract: the loop keeps that the answer for the whole list is the answer for the rest, above the
 -- last element seen. Assumes nothing.
 use borrow.Author.Rules.{rules}
-use Prim.Native.Nat.{◌≤◌, ◌-◌}
 use native.Mathlib.Omega.{arith}
-use mathlib.Core.Path.{◌≡◌, sym, ◌∙◌}
-use lib.ListN.{length, drop}
-use Rattle.net.specs.Lists.{ascends_above}
+use mathlib.Core.Path.{sym, ◌∙◌}
 use Rattle.net.proofs.ListLaws.{ascends_stop, ascends-next, ascends-end}
 use Rattle.net.proofs.lists.ascends.Goals as goal
 

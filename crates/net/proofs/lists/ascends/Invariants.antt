@@ -1,10 +1,7 @@
-use borrow.Author.Rules.{rules}
 use Prim.Native.Nat.{◌≤◌, ◌-◌}
-use native.Mathlib.Omega.{arith}
-use mathlib.Core.Path.{◌≡◌, sym, ◌∙◌}
+use mathlib.Core.Path.{◌≡◌}
 use lib.ListN.{length, drop}
 use Rattle.net.specs.Lists.{ascends_above}
-use Rattle.net.proofs.ListLaws.{ascends_stop, ascends-next, ascends-end}
 use Rattle.net.proofs.lists.ascends.Given as goal
 
 abbrev pub invariant-loop-i : goal.invariant-loop-i

@@ -1,11 +1,8 @@
 -- `is_listed` meets its contract: the loop keeps that the answer for the whole list is the answer for the rest. Assumes
 -- nothing.
 use borrow.Author.Rules.{rules}
-use Prim.Native.Nat.{◌≤◌, ◌-◌}
 use native.Mathlib.Omega.{arith}
-use mathlib.Core.Path.{◌≡◌, sym, ◌∙◌}
-use lib.ListN.{length, drop}
-use Rattle.net.specs.Lists.{listed}
+use mathlib.Core.Path.{sym, ◌∙◌}
 use Rattle.net.proofs.ListLaws.{listed_here, listed_next, listed-end}
 use Rattle.net.proofs.lists.is_listed.Goals as goal
 

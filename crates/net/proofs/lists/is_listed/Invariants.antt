@@ -1,10 +1,7 @@
-use borrow.Author.Rules.{rules}
 use Prim.Native.Nat.{◌≤◌, ◌-◌}
-use native.Mathlib.Omega.{arith}
-use mathlib.Core.Path.{◌≡◌, sym, ◌∙◌}
+use mathlib.Core.Path.{◌≡◌}
 use lib.ListN.{length, drop}
 use Rattle.net.specs.Lists.{listed}
-use Rattle.net.proofs.ListLaws.{listed_here, listed_next, listed-end}
 use Rattle.net.proofs.lists.is_listed.Given as goal
 
 abbrev pub invariant-loop-i : goal.invariant-loop-i

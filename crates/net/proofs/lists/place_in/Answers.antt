@@ -1,11 +1,7 @@
 -- `place_in` meets its contract: the loop keeps that the place in the whole list is the one in the rest, behind those passed.
 -- Assumes nothing.
 use borrow.Author.Rules.{rules}
-use Prim.Native.Nat.{◌≤◌, ◌-◌, ◌+◌}
 use native.Mathlib.Omega.{arith}
-use mathlib.Core.Path.{◌≡◌}
-use lib.ListN.{length, drop}
-use Rattle.net.specs.Lists.{place_in}
 use Rattle.net.proofs.InsertLaws.{place_stop, place-next, place_end}
 use Rattle.net.proofs.lists.place_in.Goals as goal
 

@@ -1,11 +1,7 @@
-use borrow.Author.Rules.{rules}
-use Prim.Native.Nat.{◌≤◌, ◌-◌, ◌+◌}
-use native.Mathlib.Nat.{sub-zero}
-use native.Mathlib.Omega.{arith}
-use mathlib.Core.Path.{◌≡◌, sym, ◌∙◌}
+use Prim.Native.Nat.{◌≤◌, ◌-◌}
+use mathlib.Core.Path.{◌≡◌}
 use mathlib.Core.List.{◌∷◌, ◌++◌}
-use lib.ListN.{length, drop, take, length-set}
-use Rattle.net.proofs.InsertLaws.{shift-next, shift-end}
+use lib.ListN.{length, drop, take}
 use Rattle.net.proofs.lists.shift.Given as goal
 
 abbrev pub invariant-loop-i : goal.invariant-loop-i

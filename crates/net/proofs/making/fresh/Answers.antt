@@ -1,5 +1,4 @@
 -- `fresh` meets its contract: by cases on the test of the ends. Assumes nothing.
-use borrow.Author.Rules.{rules}
 use mathlib.Core.Path.{sym, ◌∙◌}
 use borrow.Author.Tests.{not-true, not-false}
 use Rattle.net.specs.Fresh.{fresh_says, fresh_gives}

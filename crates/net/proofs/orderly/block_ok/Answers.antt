@@ -1,9 +1,6 @@
 -- `block_ok` meets its contract: the tests in the order of the definition, on the used places and the others. Assumes
 -- nothing.
-use borrow.Author.Rules.{rules}
-use native.Mathlib.Omega.{arith}
 use mathlib.Core.Path.{sym, ◌∙◌}
-use lib.Seq.{length-take-le}
 use borrow.Author.Tests.{eq-eqb, ne_eqb, lt-leb, le-leb, not-true, not-false}
 use Rattle.net.specs.Orderly.{block_ok}
 use Rattle.net.proofs.ListLaws.{part_to_end}

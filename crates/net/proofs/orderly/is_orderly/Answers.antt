@@ -31,12 +31,12 @@ pub returns-then-not-kind_ok : goal.returns-then-not-kind_ok
 unfolding orderly
 returns-then-not-kind_ok c =
     let ends : ends_ok c.args.net.start c.args.net.end ≡ true =
-        sym c.ends_ok.ensures ∙ not-false _ c.if-not-ends_ok.false-raw in
+    sym c.ends_ok.ensures ∙ not-false _ c.if-not-ends_ok.false-raw in
     rw (long c.before.before.before.before.before.before.before.before.before.before, ends, sym c.kind_ok.ensures ∙ not-true _ c.if-not-kind_ok.true-raw)
 
 pub returns : goal.returns
 unfolding orderly
 returns c =
     let ends : ends_ok c.args.net.start c.args.net.end ≡ true =
-        sym c.ends_ok.ensures ∙ not-false _ c.if-not-ends_ok.false-raw in
+    sym c.ends_ok.ensures ∙ not-false _ c.if-not-ends_ok.false-raw in
     rw (long c.before.before.before.before.before.before.before.before.before.before.before.before.before.before.before.before.before, ends, sym c.kind_ok.ensures ∙ not-false _ c.if-not-kind_ok.false-raw) c.kind_ok-2.ensures

@@ -1,5 +1,4 @@
 -- `kind_ok` meets its contract: the counts are tested where the sides passed, so that none has more than 16 sets. Assumes nothing.
-use borrow.Author.Rules.{rules}
 use mathlib.Core.Bool.{true}
 use mathlib.Core.Path.{◌≡◌, sym, ◌∙◌}
 use borrow.Author.Tests.{not-true, not-false}
@@ -14,7 +13,7 @@ returns-then-not-sides_ok c = rw (sym c.sides_ok.ensures ∙ not-true _ c.if-not
 pub counts_ok-requires : goal.counts_ok-requires
 counts_ok-requires c =
     let sides_here : let s = c.args in sides_ok s.masks.now s.lengths.now s.empty ≡ true =
-        sym c.sides_ok.ensures ∙ not-false _ c.if-not-sides_ok.false-raw in
+    sym c.sides_ok.ensures ∙ not-false _ c.if-not-sides_ok.false-raw in
     let s = c.args in
     counts_sides s.masks.now s.lengths.now s.counts.now s.empty (record { masks_long = c.requires.0; lengths_long = c.requires.1; all_ok = sides_here }) c.requires.2
 
@@ -22,5 +21,5 @@ pub returns : goal.returns
 unfolding kind_ok
 returns c =
     let sides_here : let s = c.args in sides_ok s.masks.now s.lengths.now s.empty ≡ true =
-        sym c.sides_ok.ensures ∙ not-false _ c.if-not-sides_ok.false-raw in
+    sym c.sides_ok.ensures ∙ not-false _ c.if-not-sides_ok.false-raw in
     rw sides_here c.counts_ok.ensures

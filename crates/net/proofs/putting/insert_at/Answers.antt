@@ -1,5 +1,4 @@
 -- `insert_at` meets its contract: what the shift leaves in the part, said of the whole array. Assumes nothing.
-use borrow.Author.Rules.{rules}
 use Rattle.net.proofs.InsertLaws.{shift_part}
 use Rattle.net.proofs.putting.insert_at.Goals as goal
 

@@ -1,6 +1,5 @@
 -- `put` meets its contract: the tests of the net and the activity, and then what `put_orderly` ensures. Assumes
 -- nothing.
-use borrow.Author.Rules.{rules}
 use mathlib.Core.Path.{sym, ◌∙◌}
 use borrow.Author.Tests.{le-ltb, not-true, not-false}
 use Rattle.net.specs.Put.{put_says, put_gives, grows}

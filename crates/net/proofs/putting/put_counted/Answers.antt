@@ -1,5 +1,4 @@
 -- `put_counted` meets its contract: where the set is new its place is opened in the counts too. Assumes nothing.
-use borrow.Author.Rules.{rules}
 use native.Mathlib.Omega.{arith}
 use mathlib.Core.Path.{sym, ◌∙◌}
 use Rattle.net.proofs.SideLaws.{side_at_most}

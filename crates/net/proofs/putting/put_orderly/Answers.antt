@@ -1,5 +1,4 @@
 -- `put_orderly` meets its contract: what is done to the side's arrays is what put does. Assumes nothing.
-use borrow.Author.Rules.{rules}
 use Rattle.net.specs.declared.Side.TheVariants.{Input, Output}
 use Rattle.net.proofs.OrderlyLaws.{orderly_sides, orderly_counts}
 use Rattle.net.proofs.PutLaws.{put_done}

@@ -1,16 +1,9 @@
-use Prim.Native.Nat.{ℕ, ◌-◌, ◌≤◌}
-use mathlib.Core.Path.{◌≡◌, refl, ap, ◌∙◌}
-use mathlib.Core.Logic.{⊎_elim}
+use Prim.Native.Nat.{◌-◌, ◌≤◌}
+use mathlib.Core.Path.{◌≡◌}
 use mathlib.Core.Bool.{not}
-use native.Mathlib.Numerals.{add-one}
-use native.Mathlib.Omega.{arith}
-use borrow.Author.Rules.{rules}
-use borrow.Author.Tests.{eq-eqb, ne_eqb}
 use lib.Dec.{eqb}
 use lib.ListN.{get_or}
-use Rattle.obligations.specs.Sets.{single, union}
-use Rattle.walks.specs.Below.{with_if, those_below, those}
-use Rattle.walks.specs.Links.{filled}
+use Rattle.walks.specs.Below.{those_below}
 use Rattle.walks.proofs.arcs.filled.Given as goal
 
 abbrev pub invariant-loop-a : goal.invariant-loop-a

@@ -1,12 +1,8 @@
 -- `links` meets its contract. The loop's invariant: each row passed is as it has to be. Assumes nothing.
-use Prim.Native.Nat.{ℕ, ◌-◌, ◌≤◌, ◌<◌}
-use mathlib.Core.Path.{◌≡◌, refl, ◌∙◌}
 use native.Mathlib.Omega.{arith}
-use borrow.Author.Count.{below_none}
-use borrow.Author.Rules.{rules}
-use lib.ListN.{length, get_or, length-set}
+use lib.ListN.{get_or}
 use Rattle.walks.specs.Links.{linked, links}
-use Rattle.walks.proofs.RowLaws.{rows-set, rows_are}
+use Rattle.walks.proofs.RowLaws.{rows_are}
 use Rattle.walks.proofs.arcs.links.Goals as goal
 
 pub returns : goal.returns

@@ -1,11 +1,7 @@
 use Prim.Native.Nat.{ℕ, ◌-◌, ◌≤◌, ◌<◌}
-use mathlib.Core.Path.{◌≡◌, refl, ◌∙◌}
-use native.Mathlib.Omega.{arith}
-use borrow.Author.Count.{below_none}
-use borrow.Author.Rules.{rules}
-use lib.ListN.{length, get_or, length-set}
-use Rattle.walks.specs.Links.{linked, links}
-use Rattle.walks.proofs.RowLaws.{rows-set, rows_are}
+use mathlib.Core.Path.{◌≡◌}
+use lib.ListN.{length, get_or}
+use Rattle.walks.specs.Links.{linked}
 use Rattle.walks.proofs.arcs.links.Given as goal
 
 abbrev pub invariant-loop-a : goal.invariant-loop-a

@@ -1,13 +1,8 @@
 use Prim.Native.Nat.{ℕ, ◌-◌, ◌≤◌, ◌<◌}
-use mathlib.Core.Path.{◌≡◌, refl, ◌∙◌}
-use native.Mathlib.Nat.{add-sub_cancel_left}
-use native.Mathlib.Omega.{arith}
-use borrow.Author.Count.{below_none}
-use borrow.Author.Rules.{rules}
-use lib.ListN.{length, get_or, length-set}
+use mathlib.Core.Path.{◌≡◌}
+use lib.ListN.{length, get_or}
 use Rattle.net.specs.Sides.{side_in}
-use Rattle.walks.specs.Links.{union_of, named_rows}
-use Rattle.walks.proofs.RowLaws.{rows-set, rows_are}
+use Rattle.walks.specs.Links.{union_of}
 use Rattle.walks.proofs.arcs.named_rows.Given as goal
 
 abbrev pub invariant-loop-a : goal.invariant-loop-a

@@ -1,12 +1,7 @@
 use Prim.Native.Nat.{◌+◌, ◌*◌, ◌-◌, ◌≤◌}
 use mathlib.Core.Path.{◌≡◌}
-use native.Mathlib.Omega.{arith}
-use borrow.Author.Rules.{rules}
-use lib.ListN.{length, get_or, drop}
-use Rattle.obligations.specs.Sets.{size}
+use lib.ListN.{length, drop}
 use Rattle.walks.specs.Links.{sizes}
-use Rattle.obligations.proofs.MemberLaws.{size_le}
-use Rattle.walks.proofs.RowLaws.{sizes-next, sizes-end}
 use Rattle.walks.proofs.arcs.sizes.Given as goal
 
 abbrev pub invariant-loop-i : goal.invariant-loop-i

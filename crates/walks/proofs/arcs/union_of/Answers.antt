@@ -1,9 +1,8 @@
 -- `union_of` meets its contract. The loop's invariant: the union of all sets is that of those passed with those left. Assumes nothing.
-use Prim.Native.Nat.{ℕ, ◌+◌, ◌-◌, ◌≤◌}
-use mathlib.Core.Path.{◌≡◌, sym, ap, ◌∙◌}
+use Prim.Native.Nat.{ℕ, ◌+◌}
+use mathlib.Core.Path.{sym, ap, ◌∙◌}
 use native.Mathlib.Omega.{arith}
-use borrow.Author.Rules.{rules}
-use lib.ListN.{length, drop}
+use lib.ListN.{drop}
 use Rattle.walks.specs.Rows.{union_from}
 use Rattle.walks.proofs.RowLaws.{union-next, union-end}
 use Rattle.walks.proofs.arcs.union_of.Goals as goal

@@ -1,10 +1,7 @@
-use Prim.Native.Nat.{ℕ, ◌+◌, ◌-◌, ◌≤◌}
-use mathlib.Core.Path.{◌≡◌, sym, ap, ◌∙◌}
-use native.Mathlib.Omega.{arith}
-use borrow.Author.Rules.{rules}
+use Prim.Native.Nat.{◌-◌, ◌≤◌}
+use mathlib.Core.Path.{◌≡◌}
 use lib.ListN.{length, drop}
 use Rattle.walks.specs.Rows.{union_from}
-use Rattle.walks.proofs.RowLaws.{union-next, union-end}
 use Rattle.walks.proofs.arcs.union_of.Given as goal
 
 abbrev pub invariant-loop-i : goal.invariant-loop-i

@@ -1,16 +1,12 @@
 -- `unlinked` meets its contract. The loop's invariant: the set has the activities passed whose row has a member that their row of
 -- links lacks. Assumes nothing.
-use Prim.Native.Nat.{ℕ, ◌-◌, ◌≤◌}
+use Prim.Native.Nat.{ℕ}
 use mathlib.Core.Path.{◌≡◌, refl, sym, ap, ◌∙◌}
-use mathlib.Core.Logic.{⊎_elim}
-use mathlib.Core.Bool.{Bool, not, ◌&&◌}
-use mathlib.Core.List.{List}
 use native.Mathlib.Numerals.{add-one}
 use native.Mathlib.Omega.{arith}
-use borrow.Author.Rules.{rules}
 use lib.ListN.{get_or}
 use Rattle.obligations.specs.Sets.{single, union}
-use Rattle.walks.specs.Below.{any_below, with_if, those_below, those}
+use Rattle.walks.specs.Below.{with_if, those_below, those}
 use Rattle.walks.specs.Rows.{has}
 use Rattle.walks.specs.Links.{unlinked}
 use Rattle.walks.proofs.BelowLaws.{some_lacked, none_lacked}
