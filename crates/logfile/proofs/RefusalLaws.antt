@@ -24,7 +24,7 @@ use Rattle.text.proofs.FieldLaws.{occurrences-split}
 use Rattle.text.proofs.LineLaws.{line-next, none_next}
 use Rattle.net.specs.Refusals.{outside_limits, line_form, number_form}
 use Rattle.net.specs.Sentences.{Sentence, whole, NoneHolds, order_on_line, AsListedByLine}
-use Rattle.net.proofs.SentenceLaws.{ascends, InOrder, Told, told_end, whole_link, ToldFrom, passed_all, line_passes, line_stops, line_told, told_by_line, refused-same, accepted-not-refused, holds-whole}
+use Rattle.net.proofs.SentenceLaws.{ascends, Told, told_end, whole_link, ToldFrom, passed_all, line_passes, line_stops, line_told, told_by_line, refused-same, accepted-not-refused, holds-whole}
 use Rattle.logfile.specs.Limits.{log_bytes, log_rows}
 use Rattle.logfile.specs.LogFile.{RowReading, row, end, fault, is_sessions, entries, read_fields, read_parts, read_line, past, row_after, log_header, after_header, sizes_ok, read_row, RowSays, row_means, reading_says}
 use Rattle.logfile.specs.Refusals.{LineIs, trace_text, row_text, LogOutsideLimits, CommasDiffer, NumbersDiffer, RowExceeds, UpToRow, line_refusals, row_refusals}

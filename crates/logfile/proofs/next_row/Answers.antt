@@ -37,9 +37,9 @@ returns-in_default c =
 pub returns-then-text-at : goal.returns-then-text-at
 returns-then-text-at c =
     let passed : let a = c.args in Passed a.text.now (standing a.text.now a.cursor) a.cursor.line c.in-At.at c.in-At.line =
-        let a = c.args in
-        let b = ap (λ (i : ℕ). begun a.text.now i a.cursor.line) (sym c.inside.ensures) ∙ sym c.begin-header.ensures ∙ c.in-At.is in
-        begun-passed a.text.now (standing a.text.now a.cursor) a.cursor.line c.in-At.at c.in-At.line (omega arith) b in
+    let a = c.args in
+    let b = ap (λ (i : ℕ). begun a.text.now i a.cursor.line) (sym c.inside.ensures) ∙ sym c.begin-header.ensures ∙ c.in-At.is in
+    begun-passed a.text.now (standing a.text.now a.cursor) a.cursor.line c.in-At.at c.in-At.line (omega arith) b in
     let a = c.args in
     let s = a.text.now in
     let o = a.out.now in
@@ -52,9 +52,9 @@ returns-then-text-at c =
 pub returns-then-not-is_row : goal.returns-then-not-is_row
 returns-then-not-is_row c =
     let passed : let a = c.args in Passed a.text.now (standing a.text.now a.cursor) a.cursor.line c.in-At.at c.in-At.line =
-        let a = c.args in
-        let b = ap (λ (i : ℕ). begun a.text.now i a.cursor.line) (sym c.inside.ensures) ∙ sym c.begin-header.ensures ∙ c.in-At.is in
-        begun-passed a.text.now (standing a.text.now a.cursor) a.cursor.line c.in-At.at c.in-At.line (omega arith) b in
+    let a = c.args in
+    let b = ap (λ (i : ℕ). begun a.text.now i a.cursor.line) (sym c.inside.ensures) ∙ sym c.begin-header.ensures ∙ c.in-At.is in
+    begun-passed a.text.now (standing a.text.now a.cursor) a.cursor.line c.in-At.at c.in-At.line (omega arith) b in
     let a = c.args in
     let s = a.text.now in
     let o = a.out.now in
@@ -71,9 +71,9 @@ returns-then-not-is_row c =
 pub fill_row-requires : goal.fill_row-requires
 fill_row-requires c =
     let passed : let a = c.args in Passed a.text.now (standing a.text.now a.cursor) a.cursor.line c.in-At.at c.in-At.line =
-        let a = c.args in
-        let b = ap (λ (i : ℕ). begun a.text.now i a.cursor.line) (sym c.inside.ensures) ∙ sym c.begin-header.ensures ∙ c.in-At.is in
-        begun-passed a.text.now (standing a.text.now a.cursor) a.cursor.line c.in-At.at c.in-At.line (omega arith) b in
+    let a = c.args in
+    let b = ap (λ (i : ℕ). begun a.text.now i a.cursor.line) (sym c.inside.ensures) ∙ sym c.begin-header.ensures ∙ c.in-At.is in
+    begun-passed a.text.now (standing a.text.now a.cursor) a.cursor.line c.in-At.at c.in-At.line (omega arith) b in
     let a = c.args in
     let s = a.text.now in
     let o = a.out.now in
@@ -90,9 +90,9 @@ fill_row-requires c =
 pub overflow_add-result : goal.overflow_add-result
 overflow_add-result c =
     let passed : let a = c.args in Passed a.text.now (standing a.text.now a.cursor) a.cursor.line c.in-At.at c.in-At.line =
-        let a = c.args in
-        let b = ap (λ (i : ℕ). begun a.text.now i a.cursor.line) (sym c.inside.ensures) ∙ sym c.begin-header.ensures ∙ c.in-At.is in
-        begun-passed a.text.now (standing a.text.now a.cursor) a.cursor.line c.in-At.at c.in-At.line (omega arith) b in
+    let a = c.args in
+    let b = ap (λ (i : ℕ). begun a.text.now i a.cursor.line) (sym c.inside.ensures) ∙ sym c.begin-header.ensures ∙ c.in-At.is in
+    begun-passed a.text.now (standing a.text.now a.cursor) a.cursor.line c.in-At.at c.in-At.line (omega arith) b in
     let a = c.args in
     let s = a.text.now in
     let o = a.out.now in
@@ -109,9 +109,9 @@ overflow_add-result c =
 pub returns : goal.returns
 returns c =
     let passed : let a = c.args in Passed a.text.now (standing a.text.now a.cursor) a.cursor.line c.in-At.at c.in-At.line =
-        let a = c.args in
-        let b = ap (λ (i : ℕ). begun a.text.now i a.cursor.line) (sym c.inside.ensures) ∙ sym c.begin-header.ensures ∙ c.in-At.is in
-        begun-passed a.text.now (standing a.text.now a.cursor) a.cursor.line c.in-At.at c.in-At.line (omega arith) b in
+    let a = c.args in
+    let b = ap (λ (i : ℕ). begun a.text.now i a.cursor.line) (sym c.inside.ensures) ∙ sym c.begin-header.ensures ∙ c.in-At.is in
+    begun-passed a.text.now (standing a.text.now a.cursor) a.cursor.line c.in-At.at c.in-At.line (omega arith) b in
     let a = c.args in
     let s = a.text.now in
     let o = a.out.now in

@@ -11,7 +11,7 @@ use lib.Seq.{slice}
 use Rattle.logfile.specs.LogFile.{read_line, sizes_ok, read_row}
 use Rattle.logfile.specs.Row.{answer_of, is_row}
 use Rattle.logfile.proofs.AnswerLaws.{line_row, line-is_row, line-filled, row_given, read_stays, read_given}
-use Rattle.logfile.proofs.FileLaws.{begun-passed, begun_differs, sizes_room, row_unfit, row_zero, row_start_lem, Going, going_start, going_end, going_here, going_stays, going_more}
+use Rattle.logfile.proofs.FileLaws.{begun-passed, begun_differs, sizes_room, row_unfit, row_zero, row_start_lem, going_start, going_end, going_here, going_stays, going_more}
 use Rattle.logfile.proofs.read_row.Goals as goal
 
 pub returns-then-row-eq0 : goal.returns-then-row-eq0

@@ -1,10 +1,9 @@
 -- `count_entries` meets its contract. The loop's invariant: the entries counted and those left are the trace's, and all are
 -- numbers exactly if those left are. Assumes nothing.
-use Prim.Native.Nat.{◌-◌}
 use mathlib.Core.Path.{sym}
 use borrow.Author.Rules.{rules}
 use lib.Seq.{slice}
-use Rattle.logfile.proofs.EntryLaws.{entries_none, count_none, Counting, counting-start, counting_refused, counting_last, counting_more}
+use Rattle.logfile.proofs.EntryLaws.{entries_none, count_none, counting_refused, counting_last, counting_more}
 use Rattle.logfile.proofs.row.count_entries.Goals as goal
 
 pub returns-then-i-e : goal.returns-then-i-e

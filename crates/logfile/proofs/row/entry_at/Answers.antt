@@ -1,6 +1,5 @@
 -- `entry_at` meets its contract: the field is a number, so that it is not refused and its value is read. Assumes nothing.
 use mathlib.Core.Path.{sym, ◌∙◌}
-use borrow.Author.Rules.{rules}
 use lib.Seq.{slice}
 use Rattle.obligations.proofs.BoolLaws.{false-not-true}
 use Rattle.text.proofs.DecimalLaws.{number-value, number-refused}

@@ -1,11 +1,8 @@
 -- `fill_trace` meets its contract. The loop's invariant: the entries left, stored, give the buffer with the trace at its front. Assumes nothing.
-use Prim.Native.Nat.{◌-◌, ◌<◌}
-use mathlib.Core.Path.{◌∙◌}
-use native.Mathlib.Omega.{arith}
+use Prim.Native.Nat.{◌<◌}
 use borrow.Author.Rules.{rules}
-use lib.ListN.{length, length-set}
-use lib.Seq.{slice}
-use Rattle.logfile.proofs.EntryLaws.{entries_none, filled_none, Filling, filling_start, filling_number, filling_room, filling_more, filling_last}
+use lib.ListN.{length}
+use Rattle.logfile.proofs.EntryLaws.{filling_start, filling_number, filling_room, filling_more, filling_last}
 use Rattle.logfile.proofs.row.fill_trace.Goals as goal
 
 pub loop-i-init : goal.loop-i-init
@@ -22,10 +19,10 @@ entry_at-requires c =
 pub bounds-out-k : goal.bounds-out-k
 bounds-out-k c =
     let in-room : c.loop-i.k < length c.loop-i.out =
-        let a = c.args in
-        let l = c.loop-i in
-        let f = c.find_byte-j in
-        filling_room a.text.now a.i a.e a.out.now l.at l.k l.out f.result l.invariant f.ensures.exact in
+    let a = c.args in
+    let l = c.loop-i in
+    let f = c.find_byte-j in
+    filling_room a.text.now a.i a.e a.out.now l.at l.k l.out f.result l.invariant f.ensures.exact in
     in-room
 
 pub returns-then-j-e : goal.returns-then-j-e

@@ -20,8 +20,8 @@ returns-then-count_byte-ne1 c =
 pub returns-in_default : goal.returns-in_default
 returns-in_default c =
     let two_fields : let a = c.args in read_line a.line (slice a.i a.e a.text.now) ≡ read_fields a.line (slice a.i c.find_byte-j.result a.text.now) (slice (c.find_byte-j.result + 1) a.e a.text.now) =
-        let a = c.args in
-        line_fields a.line a.text.now a.i a.e c.find_byte-j.result (search rules) (search rules) c.find_byte-j.ensures.exact (rw c.count_byte.ensures at c.if-count_byte-ne1.false) in
+    let a = c.args in
+    line_fields a.line a.text.now a.i a.e c.find_byte-j.result (search rules) (search rules) c.find_byte-j.ensures.exact (rw c.count_byte.ensures at c.if-count_byte-ne1.false) in
     let a = c.args in
     let s = a.text.now in
     let j = c.find_byte-j.result in
@@ -30,8 +30,8 @@ returns-in_default c =
 pub returns-then-sessions-eq0 : goal.returns-then-sessions-eq0
 returns-then-sessions-eq0 c =
     let two_fields : let a = c.args in read_line a.line (slice a.i a.e a.text.now) ≡ read_fields a.line (slice a.i c.find_byte-j.result a.text.now) (slice (c.find_byte-j.result + 1) a.e a.text.now) =
-        let a = c.args in
-        line_fields a.line a.text.now a.i a.e c.find_byte-j.result (search rules) (search rules) c.find_byte-j.ensures.exact (rw c.count_byte.ensures at c.if-count_byte-ne1.false) in
+    let a = c.args in
+    line_fields a.line a.text.now a.i a.e c.find_byte-j.result (search rules) (search rules) c.find_byte-j.ensures.exact (rw c.count_byte.ensures at c.if-count_byte-ne1.false) in
     let a = c.args in
     let s = a.text.now in
     let j = c.find_byte-j.result in
@@ -40,15 +40,15 @@ returns-then-sessions-eq0 c =
 pub count_entries-trace-requires : goal.count_entries-trace-requires
 count_entries-trace-requires c =
     let comma-inside : c.find_byte-j.result < c.args.e =
-        let a = c.args in
-        part_inside comma a.text.now a.i a.e c.find_byte-j.result (search rules) (search rules) c.find_byte-j.ensures.exact (omega (arith, c.count_byte.ensures, c.if-count_byte-ne1.false)) in
+    let a = c.args in
+    part_inside comma a.text.now a.i a.e c.find_byte-j.result (search rules) (search rules) c.find_byte-j.ensures.exact (omega (arith, c.count_byte.ensures, c.if-count_byte-ne1.false)) in
     omega (arith, comma-inside)
 
 pub returns-in_default-trace : goal.returns-in_default-trace
 returns-in_default-trace c =
     let two_fields : let a = c.args in read_line a.line (slice a.i a.e a.text.now) ≡ read_fields a.line (slice a.i c.find_byte-j.result a.text.now) (slice (c.find_byte-j.result + 1) a.e a.text.now) =
-        let a = c.args in
-        line_fields a.line a.text.now a.i a.e c.find_byte-j.result (search rules) (search rules) c.find_byte-j.ensures.exact (rw c.count_byte.ensures at c.if-count_byte-ne1.false) in
+    let a = c.args in
+    line_fields a.line a.text.now a.i a.e c.find_byte-j.result (search rules) (search rules) c.find_byte-j.ensures.exact (rw c.count_byte.ensures at c.if-count_byte-ne1.false) in
     let a = c.args in
     let s = a.text.now in
     let j = c.find_byte-j.result in
@@ -57,8 +57,8 @@ returns-in_default-trace c =
 pub returns-then-length-gt-POSITIONS : goal.returns-then-length-gt-POSITIONS
 returns-then-length-gt-POSITIONS c =
     let two_fields : let a = c.args in read_line a.line (slice a.i a.e a.text.now) ≡ read_fields a.line (slice a.i c.find_byte-j.result a.text.now) (slice (c.find_byte-j.result + 1) a.e a.text.now) =
-        let a = c.args in
-        line_fields a.line a.text.now a.i a.e c.find_byte-j.result (search rules) (search rules) c.find_byte-j.ensures.exact (rw c.count_byte.ensures at c.if-count_byte-ne1.false) in
+    let a = c.args in
+    line_fields a.line a.text.now a.i a.e c.find_byte-j.result (search rules) (search rules) c.find_byte-j.ensures.exact (rw c.count_byte.ensures at c.if-count_byte-ne1.false) in
     let a = c.args in
     let s = a.text.now in
     let j = c.find_byte-j.result in
@@ -67,8 +67,8 @@ returns-then-length-gt-POSITIONS c =
 pub returns-then-line : goal.returns-then-line
 returns-then-line c =
     let two_fields : let a = c.args in read_line a.line (slice a.i a.e a.text.now) ≡ read_fields a.line (slice a.i c.find_byte-j.result a.text.now) (slice (c.find_byte-j.result + 1) a.e a.text.now) =
-        let a = c.args in
-        line_fields a.line a.text.now a.i a.e c.find_byte-j.result (search rules) (search rules) c.find_byte-j.ensures.exact (rw c.count_byte.ensures at c.if-count_byte-ne1.false) in
+    let a = c.args in
+    line_fields a.line a.text.now a.i a.e c.find_byte-j.result (search rules) (search rules) c.find_byte-j.ensures.exact (rw c.count_byte.ensures at c.if-count_byte-ne1.false) in
     let a = c.args in
     let s = a.text.now in
     let j = c.find_byte-j.result in
@@ -77,8 +77,8 @@ returns-then-line c =
 pub returns : goal.returns
 returns c =
     let two_fields : let a = c.args in read_line a.line (slice a.i a.e a.text.now) ≡ read_fields a.line (slice a.i c.find_byte-j.result a.text.now) (slice (c.find_byte-j.result + 1) a.e a.text.now) =
-        let a = c.args in
-        line_fields a.line a.text.now a.i a.e c.find_byte-j.result (search rules) (search rules) c.find_byte-j.ensures.exact (rw c.count_byte.ensures at c.if-count_byte-ne1.false) in
+    let a = c.args in
+    line_fields a.line a.text.now a.i a.e c.find_byte-j.result (search rules) (search rules) c.find_byte-j.ensures.exact (rw c.count_byte.ensures at c.if-count_byte-ne1.false) in
     let a = c.args in
     let s = a.text.now in
     let j = c.find_byte-j.result in

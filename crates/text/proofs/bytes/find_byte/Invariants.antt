@@ -1,10 +1,7 @@
 use Prim.Native.Nat.{◌+◌, ◌-◌, ◌≤◌}
 use mathlib.Core.Path.{◌≡◌}
-use native.Mathlib.Omega.{arith}
-use borrow.Author.Rules.{rules}
 use lib.Seq.{slice}
 use Rattle.text.specs.Bytes.{bytes_before}
-use Rattle.text.proofs.ByteLaws.{before_here, before_more, before-end}
 use Rattle.text.proofs.bytes.find_byte.Given as goal
 
 abbrev pub invariant-loop-k : goal.invariant-loop-k

@@ -1,12 +1,8 @@
 use Prim.Native.Nat.{◌+◌, ◌-◌, ◌≤◌}
-use mathlib.Core.Path.{◌≡◌, sym}
-use native.Mathlib.Nat.{add-zero}
-use native.Mathlib.Omega.{arith}
-use borrow.Author.Rules.{rules}
+use mathlib.Core.Path.{◌≡◌}
 use lib.ListN.{length, drop}
-use lib.Seq.{slice, length-slice}
+use lib.Seq.{slice}
 use Rattle.text.specs.Bytes.{same_bytes}
-use Rattle.text.proofs.ByteLaws.{same-not-length, same_not_here, same_more, same_end}
 use Rattle.text.proofs.bytes.same_bytes.Given as goal
 
 abbrev pub invariant-loop-k : goal.invariant-loop-k

@@ -1,6 +1,6 @@
 -- `number_width` meets its contract. The loop's invariant: the digits counted and those of what is left are the number's. Assumes nothing.
 use borrow.Author.Rules.{rules}
-use Rattle.text.proofs.DigitLaws.{Counting, counting-start, counting_more, counting-end}
+use Rattle.text.proofs.DigitLaws.{counting-start, counting_more}
 use Rattle.text.proofs.decimal.number_width.Goals as goal
 
 pub loop-rest-init : goal.loop-rest-init

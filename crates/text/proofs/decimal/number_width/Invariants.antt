@@ -1,5 +1,4 @@
-use borrow.Author.Rules.{rules}
-use Rattle.text.proofs.DigitLaws.{Counting, counting-start, counting_more, counting-end}
+use Rattle.text.proofs.DigitLaws.{Counting}
 use Rattle.text.proofs.decimal.number_width.Given as goal
 
 abbrev pub invariant-loop-rest : goal.invariant-loop-rest

@@ -1,7 +1,6 @@
 -- `read_number` meets its contract: what is within a limit of 32 bits is the same number in both widths. Assumes nothing.
-use mathlib.Core.Path.{sym, ap, ◌∙◌}
+use mathlib.Core.Path.{sym, ◌∙◌}
 use native.Mathlib.Omega.{arith}
-use borrow.Author.Rules.{rules}
 use lib.Seq.{slice}
 use Rattle.text.proofs.DecimalLaws.{wide_value, wide_refused}
 use Rattle.text.proofs.decimal.read_number.Goals as goal

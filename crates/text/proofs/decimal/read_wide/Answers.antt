@@ -1,14 +1,9 @@
 -- `read_wide` meets its contract. The loop's invariant: what the field says is what the digits left say after the value so far. Assumes nothing.
-use Prim.Native.Nat.{◌+◌, ◌*◌, ◌-◌, ◌≤◌}
-use mathlib.Core.Path.{◌≡◌, sym, ◌∙◌}
-use mathlib.Core.Logic.{⊎_elim}
+use mathlib.Core.Path.{sym}
 use native.Mathlib.Omega.{arith}
 use borrow.Author.Rules.{rules}
-use borrow.Author.Tests.{leb-true, leb-false, not-true, not-false}
-use lib.ListN.{get_or}
 use lib.Seq.{slice}
-use Rattle.text.specs.Decimal.{parse_wide}
-use Rattle.text.proofs.DigitLaws.{digits, number-start, number_ill_led, digits_low, digits_high, digits_over, digits_more, digits_end, led_none, led-zero, led_other, led_one}
+use Rattle.text.proofs.DigitLaws.{number-start, number_ill_led, digits_more, led_none, led-zero, led_other, led_one}
 use Rattle.text.proofs.decimal.read_wide.Goals as goal
 use Rattle.text.proofs.decimal.read_wide.Goals.{then-s-i-eq48+else-i-e-2, else-s-i-eq48}
 

@@ -1,13 +1,8 @@
-use Prim.Native.Nat.{◌+◌, ◌*◌, ◌-◌, ◌≤◌}
-use mathlib.Core.Path.{◌≡◌, sym, ◌∙◌}
-use mathlib.Core.Logic.{⊎_elim}
-use native.Mathlib.Omega.{arith}
-use borrow.Author.Rules.{rules}
-use borrow.Author.Tests.{leb-true, leb-false, not-true, not-false}
-use lib.ListN.{get_or}
+use Prim.Native.Nat.{◌-◌, ◌≤◌}
+use mathlib.Core.Path.{◌≡◌}
 use lib.Seq.{slice}
 use Rattle.text.specs.Decimal.{parse_wide}
-use Rattle.text.proofs.DigitLaws.{digits, number-start, number_ill_led, digits_low, digits_high, digits_over, digits_more, digits_end, led_none, led-zero, led_other, led_one}
+use Rattle.text.proofs.DigitLaws.{digits}
 use Rattle.text.proofs.decimal.read_wide.Given as goal
 
 abbrev pub invariant-loop-k : goal.invariant-loop-k

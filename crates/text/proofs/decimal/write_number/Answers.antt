@@ -1,11 +1,11 @@
 -- `write_number` meets its contract. The loop's invariant: the digits below i, stored, give the buffer with the number
 -- stored; they are stored from the last to the first. Assumes nothing.
-use Prim.Native.Nat.{ℕ, ◌≤◌}
+use Prim.Native.Nat.{ℕ}
 use mathlib.Core.Path.{◌≡◌, sym, ap, ◌∙◌}
 use mathlib.Core.List.{List}
 use native.Mathlib.Omega.{arith}
 use borrow.Author.Rules.{rules}
-use lib.ListN.{length, length-set}
+use lib.ListN.{length-set}
 use lib.Seq.{sets}
 use Rattle.text.specs.Decimal.{print_number}
 use Rattle.text.proofs.DigitLaws.{last_digits, number_last}

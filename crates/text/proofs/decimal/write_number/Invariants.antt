@@ -1,13 +1,8 @@
-use Prim.Native.Nat.{ℕ, ◌≤◌}
-use mathlib.Core.Path.{◌≡◌, sym, ap, ◌∙◌}
-use mathlib.Core.List.{List}
-use native.Mathlib.Omega.{arith}
-use borrow.Author.Rules.{rules}
-use lib.ListN.{length, length-set}
+use Prim.Native.Nat.{◌≤◌}
+use mathlib.Core.Path.{◌≡◌}
+use lib.ListN.{length}
 use lib.Seq.{sets}
-use Rattle.text.specs.Decimal.{print_number}
-use Rattle.text.proofs.DigitLaws.{last_digits, number_last}
-use Rattle.text.proofs.WriteLaws.{digit-step}
+use Rattle.text.proofs.DigitLaws.{last_digits}
 use Rattle.text.proofs.decimal.write_number.Given as goal
 
 abbrev pub invariant-loop-i : goal.invariant-loop-i

@@ -1,11 +1,8 @@
 -- `line_end` meets its contract. The loop's invariant: the line that starts at i ends where what is left of it ends. Assumes nothing.
-use Prim.Native.Nat.{◌+◌, ◌-◌, ◌≤◌}
-use mathlib.Core.Path.{◌≡◌, sym, ◌∙◌}
+use mathlib.Core.Path.{sym, ◌∙◌}
 use native.Mathlib.Omega.{arith}
 use borrow.Author.Rules.{rules}
-use lib.ListN.{length, drop}
-use Rattle.text.specs.Inner.{line_length}
-use Rattle.text.proofs.LineLaws.{line-here, line_more, line_none}
+use Rattle.text.proofs.LineLaws.{line_more}
 use Rattle.text.proofs.lines.line_end.Goals as goal
 
 pub loop-k-preserved : goal.loop-k-preserved

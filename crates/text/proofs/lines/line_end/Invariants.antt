@@ -1,10 +1,7 @@
 use Prim.Native.Nat.{◌+◌, ◌-◌, ◌≤◌}
-use mathlib.Core.Path.{◌≡◌, sym, ◌∙◌}
-use native.Mathlib.Omega.{arith}
-use borrow.Author.Rules.{rules}
+use mathlib.Core.Path.{◌≡◌}
 use lib.ListN.{length, drop}
 use Rattle.text.specs.Inner.{line_length}
-use Rattle.text.proofs.LineLaws.{line-here, line_more, line_none}
 use Rattle.text.proofs.lines.line_end.Given as goal
 
 abbrev pub invariant-loop-k : goal.invariant-loop-k

@@ -4,8 +4,7 @@ use native.Mathlib.Omega.{arith}
 use borrow.Author.Rules.{rules}
 use lib.ListN.{length}
 use Rattle.text.specs.Members.{print_members}
-use Rattle.obligations.proofs.LowestLaws.{lowest_activity}
-use Rattle.text.proofs.MemberWriteLaws.{print_none, rest_less, Counted, counted_start, counted_short, counted_more, counted-end}
+use Rattle.text.proofs.MemberWriteLaws.{print_none, counted_start, counted_short, counted_more, counted-end}
 use Rattle.text.proofs.members.members_width.Goals as goal
 
 pub returns-then-set-eq0 : goal.returns-then-set-eq0

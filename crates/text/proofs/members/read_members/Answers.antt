@@ -1,12 +1,11 @@
 -- `read_members` meets its contract. The loop's invariant: what the list says is what the fields left say after the set so
 -- far, with the lowest member still allowed. Assumes nothing.
-use Prim.Native.Nat.{ℕ, ◌+◌, ◌-◌, ◌≤◌}
-use mathlib.Core.Path.{◌≡◌, sym, ap, ◌∙◌}
+use Prim.Native.Nat.{ℕ, ◌+◌, ◌≤◌}
+use mathlib.Core.Path.{sym, ap, ◌∙◌}
 use native.Mathlib.Omega.{arith}
 use borrow.Author.Rules.{rules}
 use lib.Seq.{slice}
 use Rattle.text.specs.Fields.{space, split}
-use Rattle.text.specs.Members.{parse_members}
 use Rattle.text.specs.declared.members.Members.TheVariants.{Set}
 use Rattle.text.proofs.DecimalLaws.{parse_most}
 use Rattle.text.proofs.MemberListLaws.{read_fields, members-start, list_refused, list_low, list_last, list_more}
@@ -34,7 +33,7 @@ returns-then-k-low c =
 pub overflow_add-low : goal.overflow_add-low
 overflow_add-low c =
     let member-most : c.in-Value.k ≤ 31 =
-        parse_most 31 _ _ (rw c.read_number-n.ensures at c.in-Value.is) in
+    parse_most 31 _ _ (rw c.read_number-n.ensures at c.in-Value.is) in
     omega (arith, member-most)
 
 pub returns-then-j-e : goal.returns-then-j-e

@@ -1,13 +1,9 @@
-use Prim.Native.Nat.{ℕ, ◌+◌, ◌-◌, ◌≤◌}
-use mathlib.Core.Path.{◌≡◌, sym, ap, ◌∙◌}
-use native.Mathlib.Omega.{arith}
-use borrow.Author.Rules.{rules}
+use Prim.Native.Nat.{◌-◌, ◌≤◌}
+use mathlib.Core.Path.{◌≡◌}
 use lib.Seq.{slice}
 use Rattle.text.specs.Fields.{space, split}
 use Rattle.text.specs.Members.{parse_members}
-use Rattle.text.specs.declared.members.Members.TheVariants.{Set}
-use Rattle.text.proofs.DecimalLaws.{parse_most}
-use Rattle.text.proofs.MemberListLaws.{read_fields, members-start, list_refused, list_low, list_last, list_more}
+use Rattle.text.proofs.MemberListLaws.{read_fields}
 use Rattle.text.proofs.members.read_members.Given as goal
 
 abbrev pub invariant-loop-k : goal.invariant-loop-k

@@ -7,8 +7,7 @@ use lib.Bits.{bit_and}
 use lib.ListN.{length}
 use Rattle.text.specs.Members.{print_members}
 use Rattle.text.proofs.WriteLaws.{wrote_nothing}
-use Rattle.obligations.proofs.LowestLaws.{lowest_activity}
-use Rattle.text.proofs.MemberWriteLaws.{print_none, rest_less, Writing, first_room, others_room, wrote_members, writing_start, writing_room, writing_more, writing_end}
+use Rattle.text.proofs.MemberWriteLaws.{print_none, rest_less, first_room, others_room, wrote_members, writing_start, writing_room, writing_more, writing_end}
 use Rattle.text.proofs.members.write_members.Goals as goal
 
 pub returns-then-set-eq0 : goal.returns-then-set-eq0
