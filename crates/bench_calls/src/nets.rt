@@ -8,7 +8,7 @@ use sequences::{JudgeAnswer, LearnAnswer};
 use walks::CheckAnswer;
 
 // A net, and the answer of the call that it was given to or that returned it.
-#[derive(Drop)]
+#[derive(Clone, Copy)]
 struct Called {
     net: Net,
     answer: u64,

@@ -27,7 +27,7 @@ pub const MOST_SESSIONS: u32 = 1000000;
 
 // Row: its sessions and its trace's length; the trace is at the buffer's front. End: there is no such row. Refused: the
 // refusal's number and its line, or 0 where it has none.
-#[derive(Drop)]
+#[derive(Clone, Copy)]
 pub enum RowAnswer {
     Row { sessions: u32, length: u32 },
     End,
@@ -35,14 +35,14 @@ pub enum RowAnswer {
 }
 
 // Where a line starts, and its number. Line 1 is the header.
-#[derive(Drop)]
+#[derive(Clone, Copy)]
 pub struct Cursor {
     pub at: usize,
     pub line: u32,
 }
 
 // What is read at a cursor, and the cursor after it: on the next line if a row was given, else where it was.
-#[derive(Drop)]
+#[derive(Clone, Copy)]
 pub struct NextRow {
     pub answer: RowAnswer,
     pub cursor: Cursor,
@@ -127,7 +127,7 @@ pub fn start() -> Cursor
 }
 
 // At: where the first row's line starts, and its number. Differs: the header is not what it has to be.
-#[derive(Drop)]
+#[derive(Clone, Copy)]
 enum Begun {
     At(usize, u32),
     Differs,

@@ -74,7 +74,7 @@ pub fn fill_row(text: &[u8], i: usize, e: usize, out: &mut [u32])
 }
 
 // Refused: an entry is not an activity written as a number.
-#[derive(Drop)]
+#[derive(Clone, Copy)]
 enum Entries {
     Count(usize),
     Refused,

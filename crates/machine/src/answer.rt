@@ -7,7 +7,7 @@ use crate::output::{append, append_number, append_words};
 
 // `changed`: a word or byte of a lent buffer that the call must leave as it was has changed. `count`: how many words stand
 // at the front of the word buffer.
-#[derive(Drop)]
+#[derive(Clone, Copy)]
 pub enum Answer {
     // A comment: nothing is written.
     Silent,

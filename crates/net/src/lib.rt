@@ -31,7 +31,7 @@ pub const PLACES: usize = (ACTIVITIES * SETS) as usize;
 // A net: for each activity a an input side and an output side. The sets of a's input side are the first input_len[a]
 // places of inputs from 16 * a on, and those of its output side likewise. At the same places of input_counts and
 // output_counts it is counted how often learned sequences have used each set.
-#[derive(Drop)]
+#[derive(Clone, Copy)]
 pub struct Net {
     pub start: u32,
     pub end: u32,
@@ -44,40 +44,40 @@ pub struct Net {
 }
 
 // The two sides of an activity.
-#[derive(Drop)]
+#[derive(Clone, Copy)]
 pub enum Side {
     Input,
     Output,
 }
 
 // Refused: the refusal's number and the place that is returned with it, in every answer.
-#[derive(Drop)]
+#[derive(Clone, Copy)]
 pub enum FreshAnswer {
     Made,
     Refused { number: u32, place: u32 },
 }
 
-#[derive(Drop)]
+#[derive(Clone, Copy)]
 pub struct FreshResult {
     pub answer: FreshAnswer,
     pub net: Net,
 }
 
 // New: the set was not on the side yet. Present: it was.
-#[derive(Drop)]
+#[derive(Clone, Copy)]
 pub enum PutAnswer {
     New,
     Present,
     Refused { number: u32, place: u32 },
 }
 
-#[derive(Drop)]
+#[derive(Clone, Copy)]
 pub struct PutResult {
     pub answer: PutAnswer,
     pub net: Net,
 }
 
-#[derive(Drop)]
+#[derive(Clone, Copy)]
 pub enum ContainedAnswer {
     Yes,
     No,

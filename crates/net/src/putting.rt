@@ -14,7 +14,7 @@ use crate::{LISTS, Net, PLACES, PutAnswer, PutResult, SETS, Side, lists, refusal
 use obligations::ACTIVITIES;
 
 // What a put on one side did: the set's place among those of this kind of side, if it was new or was there, or the refusal.
-#[derive(Drop)]
+#[derive(Clone, Copy)]
 pub enum Placed {
     New(usize),
     Present(usize),

@@ -17,21 +17,21 @@ pub use write::write_net;
 pub const NET_BYTES: usize = 131072;
 
 // Refused: the refusal's number and its line, or 0 where it has none.
-#[derive(Drop)]
+#[derive(Clone, Copy)]
 pub enum NetAnswer {
     Read,
     Refused { number: u32, place: u32 },
 }
 
 // The net that was read; with a refusal the fresh net of 0 and 1.
-#[derive(Drop)]
+#[derive(Clone, Copy)]
 pub struct NetReading {
     pub answer: NetAnswer,
     pub net: Net,
 }
 
 // Written: the text's length.
-#[derive(Drop)]
+#[derive(Clone, Copy)]
 pub enum WriteAnswer {
     Written { length: u32 },
     Refused { number: u32, place: u32 },

@@ -13,14 +13,14 @@ use text::decimal::{Number, read_number};
 use text::members::{Members, read_members};
 
 // The start's or the end's activity. Refused: the refusal's number.
-#[derive(Drop)]
+#[derive(Clone, Copy)]
 pub enum EndLine {
     Activity(u32),
     Refused(u32),
 }
 
 // A set on a side of an activity. Refused: the refusal's number.
-#[derive(Drop)]
+#[derive(Clone, Copy)]
 pub enum RowLine {
     Set(Side, u32, u32),
     Refused(u32),

@@ -105,7 +105,7 @@ fn read_rows(text: &[u8], at: usize, mut net: Net) -> NetReading
 }
 
 // Put: the set was put, or was there. Refused: the refusal's number.
-#[derive(Drop)]
+#[derive(Clone, Copy)]
 enum RowPut {
     Put,
     Refused(u32),

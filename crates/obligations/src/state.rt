@@ -18,7 +18,7 @@ const PARTS: usize = 4;
 const PART: usize = PAIRS / PARTS;
 
 // What a step reports.
-#[derive(Drop)]
+#[derive(Clone, Copy)]
 pub enum Stepped {
     // The total of counts after it.
     Total(u32),

@@ -9,7 +9,7 @@ mod replaying;
 pub use replaying::{replay, replay_lent};
 
 // How a replay ended, with the number of trials; or the refusal's number and the place that is returned with it.
-#[derive(Drop)]
+#[derive(Clone, Copy)]
 pub enum ReplayAnswer {
     Found { trials: u64 },
     None { trials: u64 },
@@ -18,7 +18,7 @@ pub enum ReplayAnswer {
 }
 
 // How the search from a position on ended, with the number of all trials so far.
-#[derive(Drop)]
+#[derive(Clone, Copy)]
 pub enum Outcome {
     Found { trials: u64 },
     Failed { trials: u64 },

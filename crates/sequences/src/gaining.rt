@@ -13,7 +13,7 @@ use net::putting::{Placed, put_counted};
 use net::{LISTS, MOST_USES, Net, PLACES, refusal};
 
 // What a position's set does to its side.
-#[derive(Drop)]
+#[derive(Clone, Copy)]
 enum Gained {
     // How many sets it adds, and how many counts are at their top and can't be raised: each 0 or 1.
     Added { sets: u32, topped: u32 },

@@ -16,7 +16,7 @@ pub use learning::learn;
 use net::Net;
 
 // How a sequence runs from the state in which nothing is due.
-#[derive(Drop)]
+#[derive(Clone, Copy)]
 pub enum Ran {
     // The first binding that isn't possible, by its position.
     Impossible(u32),
@@ -27,7 +27,7 @@ pub enum Ran {
 }
 
 // What refusals 3 and 4 leave of a sequence or a trace.
-#[derive(Drop)]
+#[derive(Clone, Copy)]
 pub enum Limited {
     // Within the limits: the number of positions.
     Within(usize),
@@ -37,20 +37,20 @@ pub enum Limited {
 
 // What judge answers: the peak, which is the largest total of counts after any position, or the refusal's number and its
 // place.
-#[derive(Drop)]
+#[derive(Clone, Copy)]
 pub enum JudgeAnswer {
     Judged { peak: u32 },
     Refused { number: u32, place: u32 },
 }
 
 // What learn and follow answer: the number of new sets, or the refusal's number and its place.
-#[derive(Drop)]
+#[derive(Clone, Copy)]
 pub enum LearnAnswer {
     Learned { new: u32 },
     Refused { number: u32, place: u32 },
 }
 
-#[derive(Drop)]
+#[derive(Clone, Copy)]
 pub struct LearnResult {
     pub answer: LearnAnswer,
     pub net: Net,

@@ -9,14 +9,14 @@ ghost use Rattle.text.specs.Decimal.{parse_number, parse_wide, print_number};
 const TENTH: u64 = 1844674407370955161;
 
 // A number of 32 bits, as the columns of a table have. Refused: not a number, or above the limit.
-#[derive(Drop)]
+#[derive(Clone, Copy)]
 pub enum Number {
     Value(u32),
     Refused,
 }
 
 // A number of 64 bits. Refused: not a number, or above the limit.
-#[derive(Drop)]
+#[derive(Clone, Copy)]
 pub enum WideNumber {
     Value(u64),
     Refused,

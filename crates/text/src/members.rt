@@ -13,7 +13,7 @@ use obligations::ACTIVITIES;
 use obligations::sets::with;
 
 // Refused: a member is not an activity written as a number, or is not above the one before it.
-#[derive(Drop)]
+#[derive(Clone, Copy)]
 pub enum Members {
     Set(u32),
     Refused,

@@ -19,7 +19,7 @@ use net::{LISTS, Net, PLACES, is_orderly, refusal};
 use obligations::sets;
 
 // Passed: the number of arcs. Refused: the refusal's number and the place that is returned with it.
-#[derive(Drop)]
+#[derive(Clone, Copy)]
 pub enum CheckAnswer {
     Passed { arcs: u32 },
     Refused { number: u32, place: u32 },
@@ -27,7 +27,7 @@ pub enum CheckAnswer {
 
 // The activities of a net that are on no walk from start to end, those that name one which never names them back, and the
 // number of its arcs.
-#[derive(Drop)]
+#[derive(Clone, Copy)]
 struct Survey {
     lost: u32,
     unanswered: u32,
