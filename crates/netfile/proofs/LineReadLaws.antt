@@ -27,7 +27,7 @@ use Rattle.net.specs.Refusals.{line_form, number_form}
 use Rattle.net.specs.declared.Side.{Side}
 use Rattle.net.specs.declared.Side.TheVariants.{Input, Output}
 use Rattle.netfile.specs.NetFile.{start_word, end_word, side_word, end_number, read_end, row_rest, read_set_row}
-use Rattle.netfile.specs.Refusals.{word_of, number_in, members_in, IsEnd, IsSetRow, EndFormWrong, end_commas, end_word, end_members, ActivityWrong, RowFormWrong, row_commas, row_word, row_members, MembersWrong}
+use Rattle.netfile.specs.Refusals.{word_of, number_in, members_in, IsEnd, IsSetRow, EndFormWrong, end_commas, end_word_wrong, end_members, ActivityWrong, RowFormWrong, row_commas, row_word, row_members, MembersWrong}
 use Rattle.netfile.specs.declared.line.EndLine.{EndLine}
 use Rattle.netfile.specs.declared.line.EndLine.TheVariants as end_line
 use Rattle.netfile.specs.declared.line.RowLine.{RowLine}
@@ -70,12 +70,12 @@ number_right line a p = let f = (parse_exactly highest a (number_in line) (omega
 
 pub data EndSaid (word line : List ℕ) : EndLine → Type 0 where
   end_form : EndFormWrong word line → EndSaid word line (end_line.Refused line_form)
-  end_number : (EndFormWrong word line → ⊥) → ActivityWrong line → EndSaid word line (end_line.Refused number_form)
+  end_no_activity : (EndFormWrong word line → ⊥) → ActivityWrong line → EndSaid word line (end_line.Refused number_form)
   end_row : (a : ℕ) → (EndFormWrong word line → ⊥) → (ActivityWrong line → ⊥) → IsEnd word a line → EndSaid word line (end_line.Activity a)
 
 end_right : (word line : List ℕ) → occurrences comma line ≡ 2 → word_of line ≡ word → members_in line ≡ [] → EndFormWrong word line → ⊥
 end_right word line c w m (end_commas f) = f c
-end_right word line c w m (end_word f) = f w
+end_right word line c w m (end_word_wrong f) = f w
 end_right word line c w m (end_members f) = f m
 
 pub end_said : (word line : List ℕ) → EndSaid word line (read_end word line)
@@ -88,13 +88,13 @@ end_said word line = elim (dec_eq (occurrences comma line) 2) [
     numbers c w m (number.Value a) p =
         let f = number_right line a p in
         end_row a (end_right word line c w m) (λ g. g a f.0 f.1) (record { is_text = joined line c ∙ rw (w, f.1, m); is_activity = f.0 })
-    numbers c w m number.Refused p = end_number (end_right word line c w m) (not-number line p)
+    numbers c w m number.Refused p = end_no_activity (end_right word line c w m) (not-number line p)
 
     words : occurrences comma line ≡ 2 → (same_bytes (word_of line) word ≡ true) ⊎ (same_bytes (word_of line) word ≡ false)
         → (is_empty (members_in line) ≡ true) ⊎ (is_empty (members_in line) ≡ false) → EndSaid word line (read_end word line)
     words c (inr d) m =
         rw (end_other_word word line (word_of line) (number_in line) (members_in line) (fields_three line c) d)
-        (end_form (end_word (λ e. false-not-true d ((same_exactly (word_of line) word).1 e))))
+        (end_form (end_word_wrong (λ e. false-not-true d ((same_exactly (word_of line) word).1 e))))
     words c (inl w) (inr d) =
         rw (end-members-said word line (word_of line) (number_in line) (members_in line) (fields_three line c) w d)
         (end_form (end_members (λ e. false-not-true d ((empty_exactly (members_in line)).1 e))))
@@ -107,7 +107,7 @@ end_is word line a e = go (end_said word line) e
   where
     go : {r : EndLine} → EndSaid word line r → r ≡ end_line.Activity a → IsEnd word a line
     go (end_form w) q = let z : ◌≡◌ {A = ℕ} 0 1 = cc in absurd (omega arith)
-    go (end_number f w) q = let z : ◌≡◌ {A = ℕ} 0 1 = cc in absurd (omega arith)
+    go (end_no_activity f w) q = let z : ◌≡◌ {A = ℕ} 0 1 = cc in absurd (omega arith)
     go (end_row b f g i) q = let z : b ≡ a = cc in rw z at i
 
 pub start_exactly : (line : List ℕ) (a : ℕ) → (read_end start_word line ≡ end_line.Activity a) ↔ IsEnd start_word a line
@@ -122,7 +122,7 @@ end_fine word line a e = go (end_said word line) e
   where
     go : {r : EndLine} → EndSaid word line r → r ≡ end_line.Activity a → (EndFormWrong word line → ⊥) × (ActivityWrong line → ⊥)
     go (end_form w) q = let z : ◌≡◌ {A = ℕ} 0 1 = cc in absurd (omega arith)
-    go (end_number f w) q = let z : ◌≡◌ {A = ℕ} 0 1 = cc in absurd (omega arith)
+    go (end_no_activity f w) q = let z : ◌≡◌ {A = ℕ} 0 1 = cc in absurd (omega arith)
     go (end_row b f g i) q = (f, g)
 
 -- a line is the row of one activity

@@ -43,7 +43,7 @@ use Rattle.netfile.specs.Refusals.{IsEnd, IsSetRow, HoldsEmpty, MisplacedRow, Ro
 use Rattle.netfile.specs.declared.line.EndLine.{EndLine}
 use Rattle.netfile.specs.declared.line.RowLine.{RowLine}
 use Rattle.netfile.proofs.RowLaws.{row_commas as row-commas-said}
-use Rattle.netfile.proofs.LineReadLaws.{EndSaid, end_form, end_number, end_row, end_said, start-same, end_same, RowSaid, row_form, row_number, set_row, row_said, row_exactly, row_same}
+use Rattle.netfile.proofs.LineReadLaws.{EndSaid, end_form, end_no_activity, end_row, end_said, start-same, end_same, RowSaid, row_form, row_number, set_row, row_said, row_exactly, row_same}
 
 -- ---- lines by their numbers
 
@@ -212,7 +212,7 @@ module _ (text : List ℕ) where
 
   third_told : (start : ℕ) (ls : List (List ℕ)) → IsEnd start_word start (line_at text 2) → HasLine text 3 → drop 3 (lines text) ≡ ls → {row : EndLine} → EndSaid end_word (line_at text 3) row → Told 3 (after_end start row ls).says
   third_told start ls s has e (end_form w) = stops 3 line_form (inl (refl, holds-whole (inr w)))
-  third_told start ls s has e (end_number f w) = stops 3 number_form (inr (not-whole (⊎_elim (λ m. m has) f), inl (refl, holds-whole w)))
+  third_told start ls s has e (end_no_activity f w) = stops 3 number_form (inr (not-whole (⊎_elim (λ m. m has) f), inl (refl, holds-whole w)))
   third_told start ls s has e (end_row end f g i) = go (eqb start end) refl
     where
       go : (t : Bool) → eqb start end ≡ t → Told 3 (unless_by refused_at (not t) bad_ends 3 (read_rows 4 (fresh_net start end) ls)).says
@@ -238,7 +238,7 @@ module _ (text : List ℕ) where
 
   second_told : (ls : List (List ℕ)) → HasLine text 2 → drop 2 (lines text) ≡ ls → {row : EndLine} → EndSaid start_word (line_at text 2) row → Told 2 (after_start row ls).says
   second_told ls has e (end_form w) = stops 2 line_form (inl (refl, holds-whole (inr w)))
-  second_told ls has e (end_number f w) = stops 2 number_form (inr (not-whole (⊎_elim (λ m. m has) f), inl (refl, holds-whole w)))
+  second_told ls has e (end_no_activity f w) = stops 2 number_form (inr (not-whole (⊎_elim (λ m. m has) f), inl (refl, holds-whole w)))
   second_told ls has e (end_row start f g i) =
       passes 2 _ (λ n p. ⊎_elim (λ w. ⊎_elim (λ m. m has) f w.1.bad) (⊎_elim (λ w. g w.1.bad) (λ w. w))) (from_third start ls i e)
 

@@ -46,7 +46,7 @@ pub record IsSetRow (side : Side) (a m : ℕ) (line : List ℕ) : Type 0 where
 -- 13: the line hasn't two commas, its word is another, or members are present
 pub data EndFormWrong (word line : List ℕ) : Type 0 where
   end_commas : (occurrences comma line ≡ 2 → ⊥) → EndFormWrong word line
-  end_word : (word_of line ≡ word → ⊥) → EndFormWrong word line
+  end_word_wrong : (word_of line ≡ word → ⊥) → EndFormWrong word line
   end_members : (members_in line ≡ [] → ⊥) → EndFormWrong word line
 
 -- 14: the number isn't an activity as it is printed

@@ -1,5 +1,4 @@
 -- `has` meets its contract: the lowest bit after a shift is the bit asked for, and no bit stands above the width. Assumes nothing.
-use borrow.Author.Rules.{rules}
 use borrow.Author.Tests.{ne_eqb}
 use native.Mathlib.Omega.{arith}
 use Prim.Native.Nat.{ℕ, ◌/◌, ◌^◌}

@@ -1,5 +1,4 @@
 -- `is_subset` meets its contract: nothing of the set is left without the other. Assumes nothing.
-use borrow.Author.Rules.{rules}
 use Prim.Native.Nat.{ℕ}
 use mathlib.Core.Path.{ap}
 use lib.Dec.{eqb}

@@ -1,5 +1,4 @@
 -- `single` meets its contract: a shift of one by less than the width is the power of two. Assumes nothing.
-use borrow.Author.Rules.{rules}
 use borrow.Author.Tests.{lt-ltb, le-ltb}
 use Rattle.obligations.specs.Sets.{single}
 use Rattle.obligations.proofs.BitLaws.{one_shl}

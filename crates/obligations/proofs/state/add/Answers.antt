@@ -1,5 +1,4 @@
 -- `add` meets its contract: the places of (a, q) are those of column a. Assumes nothing.
-use borrow.Author.Rules.{rules}
 use Rattle.obligations.specs.State.{outputs, added}
 use Rattle.obligations.proofs.state.add.Goals as goal
 

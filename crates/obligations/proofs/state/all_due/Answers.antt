@@ -1,8 +1,7 @@
 -- `all_due` meets its contract. The walk's invariant: all places are due exactly if those of the members left are. Assumes nothing.
-use Prim.Native.Nat.{ℕ, ◌<◌, ◌^◌}
-use mathlib.Core.Path.{◌≡◌, refl, sym, ap, ◌∙◌}
+use Prim.Native.Nat.{ℕ}
+use mathlib.Core.Path.{sym, ap, ◌∙◌}
 use native.Mathlib.Omega.{arith}
-use borrow.Author.Rules.{rules}
 use Rattle.obligations.specs.State.{places_of, all_due}
 use Rattle.obligations.proofs.PlaceLaws.{Turn, turn, places_none, due_stop, due_next}
 use Rattle.obligations.proofs.state.all_due.Goals as goal

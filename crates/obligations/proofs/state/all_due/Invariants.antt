@@ -1,9 +1,6 @@
-use Prim.Native.Nat.{ℕ, ◌<◌, ◌^◌}
-use mathlib.Core.Path.{◌≡◌, refl, sym, ap, ◌∙◌}
-use native.Mathlib.Omega.{arith}
-use borrow.Author.Rules.{rules}
+use Prim.Native.Nat.{◌<◌, ◌^◌}
+use mathlib.Core.Path.{◌≡◌}
 use Rattle.obligations.specs.State.{places_of, all_due}
-use Rattle.obligations.proofs.PlaceLaws.{Turn, turn, places_none, due_stop, due_next}
 use Rattle.obligations.proofs.state.all_due.Given as goal
 
 abbrev pub invariant-loop-rest : goal.invariant-loop-rest

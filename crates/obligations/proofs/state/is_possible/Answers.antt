@@ -1,5 +1,4 @@
 -- `is_possible` meets its contract: the places of (p, a) are those of row a. Assumes nothing.
-use borrow.Author.Rules.{rules}
 use Rattle.obligations.specs.State.{inputs, possible}
 use Rattle.obligations.proofs.state.is_possible.Goals as goal
 

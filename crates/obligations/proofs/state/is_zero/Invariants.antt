@@ -1,12 +1,7 @@
-use Prim.Native.Nat.{ℕ, ◌≤◌, ◌-◌, ◌*◌, ◌+◌}
-use mathlib.Core.Path.{◌≡◌, refl, sym, ap, ◌∙◌}
-use mathlib.Core.Bool.{Bool, true, false, ◌&&◌}
-use native.Mathlib.Omega.{arith}
-use borrow.Author.Rules.{rules}
-use borrow.Author.Tests.{not-true, not-false}
-use lib.ListN.{length, drop}
+use Prim.Native.Nat.{◌≤◌, ◌-◌, ◌*◌}
+use mathlib.Core.Path.{◌≡◌}
+use lib.ListN.{drop}
 use Rattle.obligations.specs.State.{all_zero}
-use Rattle.obligations.proofs.StateLaws.{zero_between, zero-end}
 use Rattle.obligations.proofs.state.is_zero.Given as goal
 
 abbrev pub invariant-loop-k : goal.invariant-loop-k

@@ -1,12 +1,11 @@
 -- `is_zero_between` meets its contract. The loop's invariant: all counts between the places are zero exactly if those seen are and
 -- the rest of them are. Assumes nothing.
-use Prim.Native.Nat.{ℕ, ◌≤◌, ◌-◌}
-use mathlib.Core.Path.{◌≡◌, refl, sym, ap, ◌∙◌}
+use Prim.Native.Nat.{◌≤◌, ◌-◌}
+use mathlib.Core.Path.{sym, ap, ◌∙◌}
 use mathlib.Core.Bool.{Bool, ◌&&◌, and-true}
 use native.Mathlib.Omega.{arith}
 use lib.Dec.{eqb}
 use lib.ListN.{length, take, drop, length-take}
-use Rattle.obligations.specs.State.{all_zero}
 use Rattle.obligations.proofs.StateLaws.{zero_seen_between, zero-end}
 use Rattle.obligations.proofs.state.is_zero_between.Goals as goal
 

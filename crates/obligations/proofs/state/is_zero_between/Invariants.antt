@@ -1,11 +1,9 @@
-use Prim.Native.Nat.{ℕ, ◌≤◌, ◌-◌}
-use mathlib.Core.Path.{◌≡◌, refl, sym, ap, ◌∙◌}
-use mathlib.Core.Bool.{Bool, ◌&&◌, and-true}
-use native.Mathlib.Omega.{arith}
+use Prim.Native.Nat.{◌≤◌, ◌-◌}
+use mathlib.Core.Path.{◌≡◌}
+use mathlib.Core.Bool.{◌&&◌}
 use lib.Dec.{eqb}
-use lib.ListN.{length, take, drop, length-take}
+use lib.ListN.{take, drop}
 use Rattle.obligations.specs.State.{all_zero}
-use Rattle.obligations.proofs.StateLaws.{zero_seen_between, zero-end}
 use Rattle.obligations.proofs.state.is_zero_between.Given as goal
 
 abbrev pub invariant-loop-i : goal.invariant-loop-i

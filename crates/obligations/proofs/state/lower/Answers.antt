@@ -1,10 +1,8 @@
 -- `lower` meets its contract. The walk's invariant: lowering the places of the members left gives what is to be given, and
 -- their counts allow it. Assumes nothing.
-use Prim.Native.Nat.{ℕ, ◌<◌, ◌^◌}
-use mathlib.Core.Path.{◌≡◌, refl, sym, ap, ◌∙◌, subst}
+use Prim.Native.Nat.{ℕ}
+use mathlib.Core.Path.{refl, sym, ap, ◌∙◌, subst}
 use native.Mathlib.Omega.{arith}
-use borrow.Author.Rules.{rules}
-use lib.ListN.{set}
 use Rattle.obligations.specs.State.{places_of, lowered}
 use Rattle.obligations.proofs.PlaceLaws.{Turn, turn, places_none, Covers, due_covers, covers_head, covers-next}
 use Rattle.obligations.proofs.state.lower.Goals as goal

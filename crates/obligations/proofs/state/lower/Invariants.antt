@@ -1,10 +1,7 @@
-use Prim.Native.Nat.{ℕ, ◌<◌, ◌^◌}
-use mathlib.Core.Path.{◌≡◌, refl, sym, ap, ◌∙◌, subst}
-use native.Mathlib.Omega.{arith}
-use borrow.Author.Rules.{rules}
-use lib.ListN.{set}
+use Prim.Native.Nat.{◌<◌, ◌^◌}
+use mathlib.Core.Path.{◌≡◌}
 use Rattle.obligations.specs.State.{places_of, lowered}
-use Rattle.obligations.proofs.PlaceLaws.{Turn, turn, places_none, Covers, due_covers, covers_head, covers-next}
+use Rattle.obligations.proofs.PlaceLaws.{Covers}
 use Rattle.obligations.proofs.state.lower.Given as goal
 
 abbrev pub invariant-loop-rest : goal.invariant-loop-rest

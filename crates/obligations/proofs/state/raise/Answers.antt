@@ -1,10 +1,8 @@
 -- `raise` meets its contract. The walk's invariant: raising the places of the members left gives what is to be given, and
 -- their counts have room for it. Assumes nothing.
-use Prim.Native.Nat.{ℕ, ◌<◌, ◌^◌}
-use mathlib.Core.Path.{◌≡◌, refl, sym, ap, ◌∙◌, subst}
+use Prim.Native.Nat.{ℕ}
+use mathlib.Core.Path.{refl, sym, ap, ◌∙◌, subst}
 use native.Mathlib.Omega.{arith}
-use borrow.Author.Rules.{rules}
-use lib.ListN.{set}
 use Rattle.obligations.specs.State.{places_of, raised}
 use Rattle.obligations.proofs.PlaceLaws.{Turn, turn, places_none, Room, state_room, room_head, room_next}
 use Rattle.obligations.proofs.state.raise.Goals as goal

@@ -1,7 +1,6 @@
 -- `step` meets its contract: where the binding is possible, what is taken leaves a state with room for what is added, and the
 -- total goes with it. Assumes nothing.
 use borrow.Author.Rules.{rules}
-use borrow.Author.Tests.{not-true, not-false}
 use Prim.Native.Nat.{ℕ}
 use mathlib.Core.Bool.{true}
 use mathlib.Core.List.{List}

@@ -1,5 +1,4 @@
 -- `take` meets its contract: the places of (p, a) are those of row a, and are due. Assumes nothing.
-use borrow.Author.Rules.{rules}
 use native.Mathlib.Omega.{arith}
 use Rattle.obligations.specs.State.{inputs, possible, taken}
 use Rattle.obligations.proofs.state.take.Goals as goal
@@ -7,9 +6,9 @@ use Rattle.obligations.proofs.state.take.Goals as goal
 pub lower-requires : goal.lower-requires
 unfolding possible inputs
 lower-requires c = record {
-      stride_bound = (omega arith, omega arith);
-      set_value = c.requires.x_value;
-    }
+  stride_bound = (omega arith, omega arith);
+  set_value = c.requires.x_value;
+}
 
 pub returns : goal.returns
 unfolding taken inputs

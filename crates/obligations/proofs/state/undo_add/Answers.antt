@@ -6,9 +6,9 @@ use Rattle.obligations.proofs.state.undo_add.Goals as goal
 pub lower-requires : goal.lower-requires
 unfolding covers outputs
 lower-requires c = record {
-      stride_bound = (omega arith, omega arith);
-      set_value = c.requires.y_value;
-    }
+  stride_bound = (omega arith, omega arith);
+  set_value = c.requires.y_value;
+}
 
 pub returns : goal.returns
 unfolding unadded outputs

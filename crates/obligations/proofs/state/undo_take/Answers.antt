@@ -1,5 +1,4 @@
 -- `undo_take` meets its contract: the places of (p, a) are those of row a. Assumes nothing.
-use borrow.Author.Rules.{rules}
 use Rattle.obligations.specs.State.{inputs, untaken}
 use Rattle.obligations.proofs.state.undo_take.Goals as goal
 

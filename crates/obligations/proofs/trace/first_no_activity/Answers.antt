@@ -1,13 +1,12 @@
 -- `first_no_activity` meets its contract. The loop's invariant: each position before i has an activity, and `at` is where the
 -- next one stands. Assumes nothing.
-use Prim.Native.Nat.{ℕ, ◌+◌, ◌*◌, ◌-◌, ◌≤◌, ◌<◌}
+use Prim.Native.Nat.{ℕ, ◌*◌}
 use mathlib.Core.Path.{◌≡◌, sym, subst}
 use native.Mathlib.Omega.{arith}
-use borrow.Author.Tests.{lt-ltb}
 use lib.Dec.{ltb}
-use lib.ListN.{length, get_or}
+use lib.ListN.{get_or}
 use Rattle.obligations.proofs.PositionLaws.{AllPass}
-use Rattle.obligations.proofs.TraceLaws.{stride_next, stride_inside, no_activity-at, activities_all, pass_more}
+use Rattle.obligations.proofs.TraceLaws.{no_activity-at, activities_all}
 use Rattle.obligations.proofs.trace.first_no_activity.Goals as goal
 
 pub returns-then-words-at-ge-ACTIVITIES : goal.returns-then-words-at-ge-ACTIVITIES

@@ -1,11 +1,8 @@
-use Prim.Native.Nat.{ℕ, ◌+◌, ◌*◌, ◌-◌, ◌≤◌, ◌<◌}
-use mathlib.Core.Path.{◌≡◌, sym, subst}
-use native.Mathlib.Omega.{arith}
-use borrow.Author.Tests.{lt-ltb}
+use Prim.Native.Nat.{◌*◌, ◌-◌, ◌≤◌}
+use mathlib.Core.Path.{◌≡◌}
 use lib.Dec.{ltb}
-use lib.ListN.{length, get_or}
+use lib.ListN.{get_or}
 use Rattle.obligations.proofs.PositionLaws.{AllPass}
-use Rattle.obligations.proofs.TraceLaws.{stride_next, stride_inside, no_activity-at, activities_all, pass_more}
 use Rattle.obligations.proofs.trace.first_no_activity.Given as goal
 
 abbrev pub invariant-loop-i : goal.invariant-loop-i

@@ -1,15 +1,15 @@
 -- `is_shaped` meets its contract. The loop's invariant: at each position before i start and end stand as they have to, and
 -- `at` is where the next one stands. Assumes nothing.
-use Prim.Native.Nat.{ℕ, ◌+◌, ◌*◌, ◌-◌, ◌≤◌}
+use Prim.Native.Nat.{ℕ, ◌*◌, ◌-◌}
 use mathlib.Core.Path.{◌≡◌, sym, subst}
 use native.Mathlib.Omega.{arith}
 use borrow.Author.Tests.{not-true, not-false}
 use mathlib.Core.Bool.{beq}
 use lib.Dec.{eqb}
-use lib.ListN.{length, get_or}
+use lib.ListN.{get_or}
 use Rattle.obligations.specs.Trace.{ends_agree}
 use Rattle.obligations.proofs.PositionLaws.{AllPass}
-use Rattle.obligations.proofs.TraceLaws.{stride_next, stride_inside, too_short, ends_differ, start_differs, end_differs, both_agree, ends_agree_lem, pass_more}
+use Rattle.obligations.proofs.TraceLaws.{stride_next, too_short, ends_differ, start_differs, end_differs, both_agree, ends_agree_lem, pass_more}
 use Rattle.obligations.proofs.trace.is_shaped.Goals as goal
 
 pub returns-then-n-lt2 : goal.returns-then-n-lt2

@@ -1,0 +1,18 @@
+use Prim.Native.Nat.{◌*◌, ◌-◌, ◌≤◌}
+use mathlib.Core.Path.{◌≡◌, refl, sym, ◌∙◌}
+use native.Mathlib.Omega.{arith}
+use borrow.Author.Rules.{rules}
+use lib.ListN.{drop, drop_of_length-le}
+use lib.Seq.{sets}
+use Rattle.obligations.specs.Sequence.{words}
+use Rattle.obligations.proofs.SequenceLaws.{words_nil}
+use Rattle.sequences.specs.Follow.{followed_from, followed}
+use Rattle.sequences.proofs.FollowLaws.{write_step}
+use Rattle.sequences.proofs.following.write_followed.Given as goal
+
+abbrev pub invariant-loop-i : goal.invariant-loop-i
+invariant-loop-i l =
+    (l.i ≤ l.n) × (l.at ≡ 3 * l.i) × (sets l.out l.at (words (followed_from l.previous (drop l.i l.trace))) ≡ sets l.initial.out 0 (words (followed l.trace)))
+
+abbrev pub decreases-loop-i : goal.decreases-loop-i
+decreases-loop-i l = l.n - l.i
