@@ -2,14 +2,16 @@
 // for the file's end, since half a net may say "none" where the whole one has a route. What can't be opened, read or
 // written is said on standard error, with the system's reason.
 //
-// No contract of std says what a file holds, so the contracts here give lengths only. What is read of a reader whose bytes
-// are known, and written to such a writer, is said in `moving`.
+// No contract of std says what a file holds, so the contracts of the public functions give lengths only. What is read of a
+// reader whose bytes are known, and written to such a writer, is said in full by the functions that they call.
 
 #![tactic(auto)]
 
 mod moving;
 
+ghost use Rattle.std.specs.Prelude.{◌<◌, length, take};
 ghost use Rattle.io.specs.Counts.{IsPrefixLen};
+ghost use Rattle.std.specs.Io.KnownBytes.{Consumes, IsAtEnd};
 
 use moving::{read_whole, write_whole};
 use std::fmt::InlineText;
@@ -69,9 +71,12 @@ pub fn close_output<R: Files + Eprint>(rt: &R) {
     }
 }
 
-// Reads what is open, or says that it can't be read.
+// Reads what is open, or says that it can't be read. What isn't taken as empty is read to its end or as far as the buffer
+// holds it.
 fn read_or_say<R: Eprint, F: Read>(rt: &R, file: &mut F, name: &str, buf: &mut [u8]) -> usize
-    ensures { IsPrefixLen result buf.new }
+    ensures bound { IsPrefixLen result buf.new }
+    ensures bytes { 0 < result → Consumes (F.remaining file.old) (F.remaining file.new) (take result buf.new) }
+    ensures whole { 0 < result → result < length buf.new → IsAtEnd (F.remaining file.new) }
 {
     match read_whole(file, buf) {
         Ok(n) => n,
