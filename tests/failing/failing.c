@@ -4,7 +4,7 @@
  *   FAILING_FILE     the last part of a path; reads of that file alone are touched
  *   FAILING_AFTER    after so many bytes a read of it fails
  *   FAILING_WRITES   after so many bytes a write to standard output fails
- *   FAILING_CLOSE    closing standard output fails
+ *   FAILING_SYNC     bringing a file to the disk fails
  *   FAILING_ERRNO    the error's number
  *   FAILING_CHUNK    no call moves more than so many bytes
  *   FAILING_SIGNALS  so many calls in a row are interrupted before each one that isn't
@@ -100,11 +100,11 @@ ssize_t write(int fd, const void *buf, size_t n)
 	return put;
 }
 
-int close(int fd)
+int fsync(int fd)
 {
-	if (fd == STDOUT_FILENO && setting("FAILING_CLOSE", 0))
+	if (setting("FAILING_SYNC", 0))
 		return fails();
-	return (int)syscall(SYS_close, fd);
+	return (int)syscall(SYS_fsync, fd);
 }
 
 static void note(const char *path)

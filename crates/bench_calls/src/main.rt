@@ -9,7 +9,7 @@ mod texts;
 
 ghost use Rattle.std.specs.Prelude.{◌+◌, ◌<◌, ◌≤◌, length};
 
-use libc::STDOUT_FILENO;
+use std::rt::{Env, Files};
 use text::decimal::{Number, read_number};
 
 // The calls that grow a net, those on the net in net.csv, and those on the text of a file.
@@ -33,24 +33,22 @@ pub const REFUSED: u64 = 1099511627776;
 // How often a call is made if the arguments don't say.
 const FEW: u32 = 24;
 
-fn main() {
-    let count = argument(2, FEW);
-    let asked = argument(1, CALLS);
+fn main(rt: HostRuntime) {
+    let count = argument(&rt, 2, FEW);
+    let asked = argument(&rt, 1, CALLS);
     if asked < CALLS {
-        print_line(asked, count);
+        print_line(&rt, asked, count);
         return;
     }
-    let mut call: u32 = 0;
-    while call < CALLS {
-        print_line(call, count);
-        call += 1;
+    for call in 0..CALLS {
+        print_line(&rt, call, count);
     }
 }
 
 // The number that an argument is, or another one if it is none.
-fn argument(k: usize, otherwise: u32) -> u32 {
+fn argument<R: Env>(rt: &R, k: usize, otherwise: u32) -> u32 {
     let mut digits = [0u8; 10];
-    let n = os::arg(k, &mut digits);
+    let n = rt.arg(k, &mut digits).unwrap_or(0);
     let number = read_number(&digits, 0, n, 4294967295);
     match number {
         Number::Value(value) => value,
@@ -59,33 +57,34 @@ fn argument(k: usize, otherwise: u32) -> u32 {
 }
 
 // Makes a call so often, and prints its line.
-fn print_line(call: u32, count: u32)
+fn print_line<R: Files + Print + Eprint>(rt: &R, call: u32, count: u32)
     requires { call < 6 }
 {
     print_name(
+        rt,
         b"put       learn     check     judge     read_net  read_row  ",
         10 * call as usize,
     );
-    io::print_decimal(STDOUT_FILENO, repeat(call, count));
-    io::write_all(STDOUT_FILENO, b"\n");
+    let sum = repeat(rt, call, count);
+    let _ = println!(rt; "{sum}");
 }
 
 // Prints the name that starts at a place in a list of names, with the spaces behind it.
-fn print_name(names: &[u8], from: usize)
+fn print_name<R: Print>(rt: &R, names: &[u8], from: usize)
     requires { from + 10 ≤ length names.now }
 {
     let to = from + 10;
-    io::write_all(STDOUT_FILENO, &names[from..to]);
+    let _ = rt.write_all(&names[from..to]);
 }
 
 // Makes a call so often, and returns the sum of its answers. Calls that grow a net start from a fresh one.
-fn repeat(call: u32, count: u32) -> u64 {
+fn repeat<R: Files + Eprint>(rt: &R, call: u32, count: u32) -> u64 {
     if call < CHECK {
         let made = net::fresh(0, 4);
         return nets::repeat(call, count, made.net);
     }
     if call == READ_ROW {
-        return texts::repeat_on_file(call, count, b"log.csv");
+        return texts::repeat_on_file(rt, call, count, b"log.csv");
     }
-    texts::repeat_on_file(call, count, b"net.csv")
+    texts::repeat_on_file(rt, call, count, b"net.csv")
 }

@@ -19,15 +19,13 @@ struct Called {
 pub fn repeat(call: u32, count: u32, given: Net) -> u64 {
     let mut net = given;
     let mut sum: u64 = 0;
-    let mut i: u32 = 0;
-    while i < count {
+    for i in 0..count {
         if i % 2 == 0 {
             net = given;
         }
         let called = make(call, net, i);
         net = called.net;
-        sum = std::num::wrapping_add_u64(sum, called.answer);
-        i += 1;
+        sum = sum.wrapping_add(called.answer);
     }
     sum
 }

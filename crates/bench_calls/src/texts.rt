@@ -5,14 +5,18 @@ use files::read_file;
 use logfile::RowAnswer;
 use netfile::NetAnswer;
 use obligations::POSITIONS;
+use std::rt::Files;
+
+// Room for a file, as much as the program `replay` takes.
+const TEXT_ROOM: usize = 65536;
 
 // A log has no row of this number or a higher one, so that reading such a row passes over the whole log.
 const NO_ROW: u64 = 1001;
 
 // Makes a call so often on a file.
-pub fn repeat_on_file(call: u32, count: u32, path: &[u8]) -> u64 {
-    let mut text = io::large_buffer();
-    let n = read_file(path, &mut text);
+pub fn repeat_on_file<R: Files + Eprint>(rt: &R, call: u32, count: u32, path: &[u8]) -> u64 {
+    let mut text = [0u8; TEXT_ROOM];
+    let n = read_file(rt, path, &mut text);
     repeat_on_text(call, count, &text[..n])
 }
 
@@ -29,10 +33,8 @@ fn repeat_on_text(call: u32, count: u32, text: &[u8]) -> u64 {
 // call of many.
 fn repeat_reading(call: u32, count: u32, text: &[u8]) -> u64 {
     let mut sum: u64 = 0;
-    let mut i: u32 = 0;
-    while i < count {
-        sum = std::num::wrapping_add_u64(sum, read(call, i, text));
-        i += 1;
+    for i in 0..count {
+        sum = sum.wrapping_add(read(call, i, text));
     }
     sum
 }

@@ -10,36 +10,37 @@ use files::{print, read_file};
 use net::Net;
 use netfile::NetAnswer;
 use report::{FILE_BYTES, REPORT_ROOM, read_checked, report_log, write_refusal};
+use std::rt::Files;
 
 // Room for a file and one byte more, so that a longer one is seen to be longer.
 const FILE_ROOM: usize = FILE_BYTES + 1;
 
 // Prints the report of a net file and a log file, and answers whether all of it could be printed. The log is opened only
 // after the net has passed.
-pub fn print_report(net_path: &[u8], log_path: &[u8]) -> bool {
+pub fn print_report<R: Files + Print + Eprint>(rt: &R, net_path: &[u8], log_path: &[u8]) -> bool {
     let mut text = [0u8; FILE_ROOM];
-    let n = read_file(net_path, &mut text);
+    let n = read_file(rt, net_path, &mut text);
     let read = read_checked(&text[..n]);
     let answer = read.answer;
     if let NetAnswer::Refused { number, place } = answer {
-        return print_refusal(number, place);
+        return print_refusal(rt, number, place);
     }
-    print_log(read.net, log_path, &mut text)
+    print_log(rt, read.net, log_path, &mut text)
 }
 
 // Prints the refusal of a net file.
-fn print_refusal(number: u32, line: u32) -> bool {
+fn print_refusal<R: Print + Eprint>(rt: &R, number: u32, line: u32) -> bool {
     let mut out = [0u8; REPORT_ROOM];
     let n = write_refusal(&mut out, b"net", number, line);
-    print(&out[..n])
+    print(rt, &out[..n])
 }
 
 // Prints the report of a log file in a net that has been checked. The file is read into `text`.
-fn print_log(net: Net, path: &[u8], text: &mut [u8]) -> bool
+fn print_log<R: Files + Print + Eprint>(rt: &R, net: Net, path: &[u8], text: &mut [u8]) -> bool
     requires { orderly net ≡ true }
 {
     let mut out = [0u8; REPORT_ROOM];
-    let n = read_file(path, text);
+    let n = read_file(rt, path, text);
     let k = report_log(net, &text[..n], &mut out);
-    print(&out[..k])
+    print(rt, &out[..k])
 }

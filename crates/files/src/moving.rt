@@ -1,87 +1,84 @@
-// Bytes from and to an open file, all of them. A call that a signal interrupts is tried again; one that fails otherwise
+// Bytes from and to what is open, all of them. A call that a signal interrupts is tried again; one that fails otherwise
 // ends the reading or writing as failed. Every loop here ends: a call moves at least one byte, and is tried a number of
 // times only.
 
-ghost use Rattle.io.specs.Counts.{IsPrefixLen};
+ghost use Rattle.std.specs.Prelude.{◌<◌, IfOk, OnOk, IsErr, IsTrue, length, take};
+ghost use Rattle.std.specs.Io.{ReadsAtMost, WritesAtMost};
+ghost use Rattle.std.specs.Io.KnownBytes.{Appends, Consumes, IsAtEnd, ReadConsumes, WriteAppends};
 
-use libc::EINTR;
+use std::io;
+use std::io::{ErrorKind, Read, Write};
 
 // How often a call is made, if signals interrupt it each time.
 const TRIES: u32 = 1000;
 
-// How many bytes stand at the buffer's front, and whether nothing failed.
-#[derive(Clone, Copy)]
-pub struct Reading {
-    pub count: usize,
-    pub whole: bool,
-}
-
-// Reads until the file ends or the buffer is full.
-pub fn read_whole(fd: i32, buf: &mut [u8]) -> Reading
-    ensures { IsPrefixLen result.count buf.new }
+// Reads until the file ends or the buffer is full, and returns how many bytes stand at the buffer's front. They are what
+// the reader gave, and if they don't fill the buffer nothing is left in it.
+pub fn read_whole<R: Read>(reader: &mut R, buf: &mut [u8]) -> io::Result<usize>
+    ensures bound { ReadsAtMost result buf.new }
+    ensures bytes { IfOk result (λ n. Consumes (R.remaining reader.old) (R.remaining reader.new) (take n buf.new)) }
+    ensures end { IfOk result (λ n. n < length buf.new → IsAtEnd (R.remaining reader.new)) }
 {
     let mut done: usize = 0;
     while done < buf.len() {
-        let got = read_some(fd, &mut buf[done..]);
-        if got < 0 {
-            return Reading {
-                count: 0,
-                whole: false,
-            };
-        }
-        let more = io::count(got, &buf[done..]);
+        let more = read_some(reader, &mut buf[done..])?;
         if more == 0 {
-            break;
+            return Ok(done);
         }
         done += more;
     }
-    Reading {
-        count: done,
-        whole: true,
-    }
+    Ok(done)
 }
 
-// Writes all bytes, and says whether that was done: a write that fails or takes nothing ends it.
-pub fn write_whole(fd: i32, bytes: &[u8]) -> bool {
+// Writes all bytes: a write that fails or takes nothing ends it.
+pub fn write_whole<W: Write>(writer: &mut W, bytes: &[u8]) -> io::Result<()>
+    ensures { OnOk result (Appends (W.contents writer.old) (W.contents writer.new) bytes.now) }
+{
     let mut done: usize = 0;
     while done < bytes.len() {
-        let put = write_some(fd, &bytes[done..]);
-        let more = io::count(put, &bytes[done..]);
+        let more = write_some(writer, &bytes[done..])?;
         if more == 0 {
-            return false;
+            return Err(io::Error::from(ErrorKind::WriteZero));
         }
         done += more;
     }
-    true
+    Ok(())
 }
 
 // One read that no signal interrupts.
-fn read_some(fd: i32, buf: &mut [u8]) -> isize {
-    let mut tries: u32 = 1;
-    while tries < TRIES {
-        let got = libc::read(fd, buf);
-        if !interrupted(got) {
+fn read_some<R: Read>(reader: &mut R, buf: &mut [u8]) -> io::Result<usize>
+    ensures bound { ReadsAtMost result buf.new }
+    ensures bytes { ReadConsumes (R.remaining reader.old) (R.remaining reader.new) result buf.new }
+{
+    for _ in 1..TRIES {
+        let got = reader.read(buf);
+        if !interrupted(&got) {
             return got;
         }
-        tries += 1;
     }
-    libc::read(fd, buf)
+    reader.read(buf)
 }
 
 // One write that no signal interrupts.
-fn write_some(fd: i32, bytes: &[u8]) -> isize {
-    let mut tries: u32 = 1;
-    while tries < TRIES {
-        let put = libc::write(fd, bytes);
-        if !interrupted(put) {
+fn write_some<W: Write>(writer: &mut W, bytes: &[u8]) -> io::Result<usize>
+    ensures bound { WritesAtMost result bytes.now }
+    ensures bytes { WriteAppends (W.contents writer.old) (W.contents writer.new) result bytes.now }
+{
+    for _ in 1..TRIES {
+        let put = writer.write(bytes);
+        if !interrupted(&put) {
             return put;
         }
-        tries += 1;
     }
-    libc::write(fd, bytes)
+    writer.write(bytes)
 }
 
 // Whether a call that answered so was interrupted by a signal.
-fn interrupted(answer: isize) -> bool {
-    answer < 0 && os::errno() == EINTR
+fn interrupted(answer: &io::Result<usize>) -> bool
+    ensures { IsTrue result → IsErr answer.now }
+{
+    match answer {
+        Ok(_) => false,
+        Err(error) => error.kind() == ErrorKind::Interrupted,
+    }
 }

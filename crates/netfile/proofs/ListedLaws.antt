@@ -11,7 +11,7 @@ use mathlib.Core.Bool.{Bool, true, false, cond, not}
 use mathlib.Core.List.{List, [], ◌∷◌}
 use mathlib.Core.Logic.{◌⊎◌, inl, inr, ⊎_elim, ◌↔◌}
 use lib.Dec.{leb, eqb}
-use lib.ListN.{length, get_or, drop, get_or-eq_default}
+use lib.ListN.{length, drop, get_or-eq_default}
 use borrow.Author.Tests.{leb-true, leb-false, eqb-true, eqb-false}
 use Rattle.obligations.proofs.BoolLaws.{false-not-true}
 use Rattle.text.specs.Bytes.{same_bytes}
@@ -21,12 +21,12 @@ use Rattle.text.proofs.LineLaws.{line-next, none_next}
 use Rattle.net.specs.Refusals.{Says, accepted, refused, bad_ends, outside_limits, misplaced_set, full_side, line_form, number_form}
 use Rattle.net.specs.Limits.{sets}
 use Rattle.net.specs.Sentences.{NoneHolds, order_on_line, AsListedByLine}
-use Rattle.net.specs.Lists.{listed, AtMost}
+use Rattle.net.specs.Lists.{AtMost}
 use Rattle.net.specs.Chains.{unless_by}
 use Rattle.net.specs.Sides.{empty_at, OnSide}
 use Rattle.net.specs.Orderly.{orderly}
 use Rattle.net.specs.Fresh.{fresh_net}
-use Rattle.net.specs.Put.{Exceeds, misplaced, put_says, put_gives}
+use Rattle.net.specs.Put.{Exceeds, put_says, put_gives}
 use Rattle.net.specs.declared.Net.{Net}
 use Rattle.net.specs.declared.Side.{Side}
 use Rattle.net.specs.declared.Side.TheVariants.{Input, Output}

@@ -4,7 +4,7 @@ use Prim.Native.Nat.{ℕ, zero, suc, ◌+◌, ◌^◌, ◌<◌, ◌≤◌}
 use native.Mathlib.Decide.{ℕ_discrete as dec_eq}
 use native.Mathlib.Omega.{arith}
 use mathlib.Core.Path.{◌≡◌, refl, sym, ap, ◌∙◌}
-use mathlib.Core.Bool.{true, false}
+use mathlib.Core.Bool.{true}
 use mathlib.Core.Logic.{⊎_elim}
 use mathlib.Core.List.Memᴰ
 use mathlib.Core.List.{List, [], ◌∷◌, ◌++◌, Memᴰ}
@@ -15,7 +15,6 @@ use Rattle.text.specs.Lines.{cr, lines}
 use Rattle.text.specs.Fields.{comma, split, join}
 use Rattle.text.specs.Decimal.{print_number}
 use Rattle.text.specs.Members.{highest, print_members}
-use Rattle.text.specs.declared.members.Members.TheVariants as members
 use Rattle.text.proofs.ByteLaws.{occurrences-append}
 use Rattle.text.proofs.LineLaws.{lines-unlines}
 use Rattle.text.proofs.FieldLaws.{split-join}

@@ -2,8 +2,8 @@
 
 #![tactic(auto)]
 
-fn main() {
-    if file_report::print_report(b"net.csv", b"log.csv") {
-        files::close_output();
+fn main(rt: HostRuntime) {
+    if file_report::print_report(&rt, b"net.csv", b"log.csv") {
+        files::close_output(&rt);
     }
 }

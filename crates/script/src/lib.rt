@@ -19,29 +19,44 @@ use machine::answer::{Answer, write_answer};
 use machine::buffers::{byte_room, out_room, script_room, text_room, word_room};
 use machine::output::flush;
 use machine::registers::{RECORDS, clear};
+use std::io::Input;
 use text::bytes::find_byte;
 
 // A script has at most this many bytes.
 const SCRIPT_BYTES: usize = 4194304;
 
 // Runs the script on standard input and writes its answers to standard output.
-pub fn run_script() {
+pub fn run_script<R: Input + Print + Eprint>(rt: &R) {
     let mut script = script_room();
-    let n = read_input(&mut script);
+    let n = read_input(rt, &mut script);
     if SCRIPT_BYTES < n {
-        print(b"?\n");
+        print(rt, b"?\n");
         return;
     }
     let mut text = text_room();
     let mut words = word_room();
     let mut bytes = byte_room();
     let mut out = out_room();
-    run_lines(&script[..n], &mut text, &mut words, &mut bytes, &mut out);
+    run_lines(
+        rt,
+        &script[..n],
+        &mut text,
+        &mut words,
+        &mut bytes,
+        &mut out,
+    );
 }
 
 // Runs the lines one after the other. The bytes of a text are passed over with the line that takes them. A text is held in
 // `text`, buffers for calls are parts of `words` and `bytes`, and answers are gathered in `out`.
-fn run_lines(script: &[u8], text: &mut [u8], words: &mut [u32], bytes: &mut [u8], out: &mut [u8])
+fn run_lines<R: Print + Eprint>(
+    rt: &R,
+    script: &[u8],
+    text: &mut [u8],
+    words: &mut [u32],
+    bytes: &mut [u8],
+    out: &mut [u8],
+)
     requires { (length script.now ≤ 4194304) × (length text.old ≤ 524289) }
 {
     let mut records = [0u32; RECORDS];
@@ -61,10 +76,10 @@ fn run_lines(script: &[u8], text: &mut [u8], words: &mut [u32], bytes: &mut [u8]
             words,
             bytes,
         );
-        at = write_answer(out, at, answer, words, &text[..text_len]);
+        at = write_answer(rt, out, at, answer, words, &text[..text_len]);
         i = next_line(e, answer, text_len);
     }
-    flush(out, at);
+    flush(rt, out, at);
 }
 
 // Where the line after one that ends at e starts: behind the bytes of a text, if it had one.

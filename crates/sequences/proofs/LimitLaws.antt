@@ -15,7 +15,6 @@ use Rattle.obligations.proofs.TraceLaws.{no_activity_ext, activities_below}
 use Rattle.obligations.proofs.SequenceLaws.{held_at, length-bindings}
 use Rattle.sequences.specs.Limits.{words_within, within_limits, trace_within_limits}
 use Rattle.sequences.specs.Inner.{WithinLimits, TraceWithinLimits, LimitsOf, TraceLimitsOf}
-use Rattle.net.specs.Traces.{trace_within}
 use Rattle.sequences.specs.declared.Limited.TheVariants.{Within, Beyond}
 
 beyond_not-within : {k p n : ℕ} {A : Type 0} → Beyond k p ≡ Within n → A

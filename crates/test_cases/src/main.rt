@@ -4,21 +4,21 @@
 
 #![tactic(auto)]
 
+use std::rt::Files;
+
 const CASES: u8 = 63;
 
 // Prints the report of one case.
-fn print_case(case: u8) {
+fn print_case<R: Files + Print + Eprint>(rt: &R, case: u8) {
     let tens = b'0' + case / 10 % 10;
     let ones = b'0' + case % 10;
     let net_path = [tens, ones, b'.', b'n', b'e', b't'];
     let log_path = [tens, ones, b'.', b'l', b'o', b'g'];
-    file_report::print_report(&net_path, &log_path);
+    file_report::print_report(rt, &net_path, &log_path);
 }
 
-fn main() {
-    let mut case: u8 = 1;
-    while case <= CASES {
-        print_case(case);
-        case += 1;
+fn main(rt: HostRuntime) {
+    for case in 1..=CASES {
+        print_case(&rt, case);
     }
 }

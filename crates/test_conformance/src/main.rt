@@ -3,6 +3,6 @@
 
 #![tactic(auto)]
 
-fn main() {
-    script::run_script();
+fn main(rt: HostRuntime) {
+    script::run_script(&rt);
 }

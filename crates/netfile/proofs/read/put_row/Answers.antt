@@ -1,6 +1,4 @@
 -- `put_row` meets its contract: what is done to one side's arrays is what put does to the net. Assumes nothing.
-use mathlib.Core.Path.{refl}
-use borrow.Author.Rules.{rules}
 use Rattle.net.specs.declared.Side.TheVariants.{Input, Output}
 use Rattle.net.proofs.OrderlyLaws.{orderly_sides}
 use Rattle.net.specs.Sides.{net_of}

@@ -1,17 +1,10 @@
 -- `read_rows` meets its contract. The loop's invariant: the arrays are those of an orderly net with counts 0, and what the rows say
 -- is what the rows left say from that net on. Assumes nothing.
-use Prim.Native.Nat.{◌+◌, ◌-◌, ◌≤◌}
-use mathlib.Core.Path.{◌≡◌, refl, sym, ap, ◌∙◌}
-use mathlib.Core.Bool.{true}
+use mathlib.Core.Path.{refl, ◌∙◌}
 use borrow.Author.Rules.{rules}
-use lib.ListN.{length, drop}
-use Rattle.text.specs.Lines.{lines}
 use Rattle.text.specs.Inner.{next_line}
 use Rattle.net.specs.Sides.{net_of}
-use Rattle.net.specs.Orderly.{orderly}
-use Rattle.net.specs.declared.Net.{Net}
-use Rattle.net.proofs.UncountedLaws.{uncounted-orderly, uncounted-with}
-use Rattle.netfile.specs.NetFile.{read_rows}
+use Rattle.net.proofs.UncountedLaws.{uncounted-with}
 use Rattle.netfile.proofs.LineReadLaws.{row_exactly}
 use Rattle.netfile.proofs.PutRowLaws.{row-orderly}
 use Rattle.netfile.proofs.FileLaws.{rows_more, rows_bad, rows_end}
@@ -19,9 +12,9 @@ use Rattle.netfile.proofs.read.read_rows.Goals as goal
 
 pub put_row-put-requires : goal.put_row-put-requires
 put_row-put-requires c = record {
-      output_len_value = c.loop-i.invariant.2;
-      of_activity = λ side a m q. ((row_exactly _ side a m).0 (rw c.row_line-row.ensures at q)).is_activity;
-    }
+  output_len_value = c.loop-i.invariant.2;
+  of_activity = λ side a m q. ((row_exactly _ side a m).0 (rw c.row_line-row.ensures at q)).is_activity;
+}
 
 pub returns-in-Refused : goal.returns-in-Refused
 returns-in-Refused c =

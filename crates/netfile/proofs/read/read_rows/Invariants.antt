@@ -1,18 +1,11 @@
 use Prim.Native.Nat.{◌+◌, ◌-◌, ◌≤◌}
-use mathlib.Core.Path.{◌≡◌, refl, sym, ap, ◌∙◌}
+use mathlib.Core.Path.{◌≡◌}
 use mathlib.Core.Bool.{true}
-use borrow.Author.Rules.{rules}
 use lib.ListN.{length, drop}
 use Rattle.text.specs.Lines.{lines}
-use Rattle.text.specs.Inner.{next_line}
 use Rattle.net.specs.Sides.{net_of}
 use Rattle.net.specs.Orderly.{orderly}
-use Rattle.net.specs.declared.Net.{Net}
-use Rattle.net.proofs.UncountedLaws.{uncounted-orderly, uncounted-with}
 use Rattle.netfile.specs.NetFile.{read_rows}
-use Rattle.netfile.proofs.LineReadLaws.{row_exactly}
-use Rattle.netfile.proofs.PutRowLaws.{row-orderly}
-use Rattle.netfile.proofs.FileLaws.{rows_more, rows_bad, rows_end}
 use Rattle.netfile.proofs.read.read_rows.Given as goal
 
 abbrev pub invariant-loop-i : goal.invariant-loop-i

@@ -1,6 +1,5 @@
 -- `refused_reading` meets its contract: 0 and 1 are ends that fresh accepts. Assumes nothing.
 use mathlib.Core.Path.{refl, ◌∙◌}
-use borrow.Author.Rules.{rules}
 use Rattle.net.proofs.FreshLaws.{fresh_given, zero_one}
 use Rattle.netfile.proofs.read.refused_reading.Goals as goal
 

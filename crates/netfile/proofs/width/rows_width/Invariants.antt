@@ -1,15 +1,9 @@
 use Prim.Native.Nat.{◌+◌, ◌-◌, ◌≤◌}
 use mathlib.Core.Path.{◌≡◌}
-use native.Mathlib.Omega.{arith}
-use mathlib.Core.Path.{ap}
-use borrow.Author.Rules.{rules}
 use lib.ListN.{length}
 use Rattle.obligations.specs.Limits.{activities}
 use Rattle.text.specs.Lines.{unlines}
-use Rattle.net.specs.declared.Side.TheVariants.{Input, Output}
-use Rattle.net.proofs.OrderlyLaws.{orderly_arrays}
 use Rattle.netfile.specs.NetFile.{activity_lines}
-use Rattle.netfile.proofs.TextLaws.{activities_width_step, activities_none, rows_short}
 use Rattle.netfile.proofs.width.rows_width.Given as goal
 
 abbrev pub invariant-loop-a : goal.invariant-loop-a

@@ -1,12 +1,8 @@
 -- `sets_width` meets its contract. The loop's invariant: the width so far and that of the sets left are the whole. Assumes nothing.
-use Prim.Native.Nat.{◌+◌, ◌-◌, ◌≤◌}
-use mathlib.Core.Path.{◌≡◌}
 use native.Mathlib.Omega.{arith}
 use mathlib.Core.Path.{ap}
 use borrow.Author.Rules.{rules}
-use lib.ListN.{length, drop}
-use Rattle.text.specs.Lines.{unlines}
-use Rattle.netfile.specs.NetFile.{sets_lines}
+use lib.ListN.{length}
 use Rattle.netfile.proofs.TextLaws.{sets_width-step, sets_none, sets_short}
 use Rattle.netfile.proofs.width.sets_width.Goals as goal
 

@@ -1,6 +1,5 @@
 -- `write_head` meets its contract: five pieces, one after the other. Assumes nothing.
 use native.Mathlib.Omega.{arith}
-use borrow.Author.Rules.{rules}
 use Rattle.text.proofs.WriteLaws.{wrote_append}
 use Rattle.netfile.proofs.TextLaws.{head_bytes, head_width}
 use Rattle.netfile.proofs.write.write_head.Goals as goal

@@ -1,7 +1,6 @@
 -- `write_net` meets its contract: the tests in the order of their numbers, then the text, first its first three lines and then its rows. Assumes nothing.
 use mathlib.Core.Path.{sym, ap, ◌∙◌}
 use native.Mathlib.Omega.{arith}
-use borrow.Author.Rules.{rules}
 use borrow.Author.Tests.{not-true, not-false}
 use lib.ListN.{length, length-append}
 use Rattle.obligations.specs.Limits.{activities}

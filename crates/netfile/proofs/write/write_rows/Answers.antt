@@ -1,11 +1,11 @@
 -- `write_rows` meets its contract. The loop's invariant: the rows of the activities left, stored, give the buffer with all rows stored. Assumes nothing.
-use Prim.Native.Nat.{◌+◌, ◌-◌, ◌≤◌}
+use Prim.Native.Nat.{◌+◌, ◌-◌}
 use mathlib.Core.Path.{refl}
 use mathlib.Core.List.{◌++◌}
 use borrow.Author.Rules.{rules}
 use Rattle.obligations.specs.Limits.{activities}
 use Rattle.text.specs.Lines.{unlines}
-use Rattle.text.proofs.StoreLaws.{Storing, storing_start, storing_room, storing_more, storing_end}
+use Rattle.text.proofs.StoreLaws.{storing_room, storing_more, storing_end}
 use Rattle.net.specs.declared.Side.TheVariants.{Input, Output}
 use Rattle.net.proofs.OrderlyLaws.{orderly_arrays}
 use Rattle.netfile.specs.NetFile.{side_lines, activity_lines}

@@ -1,14 +1,8 @@
-use Prim.Native.Nat.{◌+◌, ◌-◌, ◌≤◌}
-use mathlib.Core.Path.{refl}
-use mathlib.Core.List.{◌++◌}
-use borrow.Author.Rules.{rules}
+use Prim.Native.Nat.{◌-◌, ◌≤◌}
 use Rattle.obligations.specs.Limits.{activities}
 use Rattle.text.specs.Lines.{unlines}
-use Rattle.text.proofs.StoreLaws.{Storing, storing_start, storing_room, storing_more, storing_end}
-use Rattle.net.specs.declared.Side.TheVariants.{Input, Output}
-use Rattle.net.proofs.OrderlyLaws.{orderly_arrays}
-use Rattle.netfile.specs.NetFile.{side_lines, activity_lines}
-use Rattle.netfile.proofs.TextLaws.{activities-step, activities_none}
+use Rattle.text.proofs.StoreLaws.{Storing}
+use Rattle.netfile.specs.NetFile.{activity_lines}
 use Rattle.netfile.proofs.write.write_rows.Given as goal
 
 abbrev pub invariant-loop-a : goal.invariant-loop-a

@@ -1,10 +1,9 @@
 -- `write_sets` meets its contract. The loop's invariant: the rows of the sets left, stored, give the buffer with all rows stored. Assumes nothing.
-use Prim.Native.Nat.{◌+◌, ◌-◌, ◌≤◌}
-use mathlib.Core.Path.{refl}
+use Prim.Native.Nat.{◌+◌}
 use borrow.Author.Rules.{rules}
-use lib.ListN.{length, drop, get_or}
+use lib.ListN.{drop, get_or}
 use Rattle.text.specs.Lines.{unlines}
-use Rattle.text.proofs.StoreLaws.{Storing, storing_start, storing_room, storing_more, storing_end}
+use Rattle.text.proofs.StoreLaws.{storing_room, storing_more, storing_end}
 use Rattle.netfile.specs.NetFile.{set_lines, sets_lines}
 use Rattle.netfile.proofs.TextLaws.{sets-step, sets_none}
 use Rattle.netfile.proofs.write.write_sets.Goals as goal

@@ -1,11 +1,8 @@
-use Prim.Native.Nat.{◌+◌, ◌-◌, ◌≤◌}
-use mathlib.Core.Path.{refl}
-use borrow.Author.Rules.{rules}
-use lib.ListN.{length, drop, get_or}
+use Prim.Native.Nat.{◌-◌, ◌≤◌}
+use lib.ListN.{length, drop}
 use Rattle.text.specs.Lines.{unlines}
-use Rattle.text.proofs.StoreLaws.{Storing, storing_start, storing_room, storing_more, storing_end}
-use Rattle.netfile.specs.NetFile.{set_lines, sets_lines}
-use Rattle.netfile.proofs.TextLaws.{sets-step, sets_none}
+use Rattle.text.proofs.StoreLaws.{Storing}
+use Rattle.netfile.specs.NetFile.{sets_lines}
 use Rattle.netfile.proofs.write.write_sets.Given as goal
 
 abbrev pub invariant-loop-i : goal.invariant-loop-i

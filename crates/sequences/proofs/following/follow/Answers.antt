@@ -2,7 +2,6 @@
 use mathlib.Core.Path.{sym, ◌∙◌}
 use borrow.Author.Tests.{not-true, not-false}
 use Rattle.sequences.proofs.FollowLaws.{follow_disorderly, follow_limits, follow_done}
-use borrow.Author.Rules.{rules}
 use Rattle.sequences.proofs.following.follow.Goals as goal
 
 pub returns-then-not-is_orderly : goal.returns-then-not-is_orderly

@@ -3,7 +3,6 @@ use Prim.Native.Nat.{◌+◌}
 use borrow.Author.Tests.{lt-ltb, le-ltb}
 use lib.ListN.{length}
 use Rattle.sequences.specs.Inner.{next_set}
-use borrow.Author.Rules.{rules}
 use Rattle.sequences.proofs.following.next_set.Goals as goal
 
 pub returns-then-next-trace : goal.returns-then-next-trace

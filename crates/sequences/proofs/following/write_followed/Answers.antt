@@ -1,13 +1,9 @@
 -- `write_followed` meets its contract. The loop's invariant: what is still to be written, written, gives what is to be given. Assumes nothing.
-use Prim.Native.Nat.{◌*◌, ◌-◌, ◌≤◌}
-use mathlib.Core.Path.{◌≡◌, refl, sym, ◌∙◌}
+use mathlib.Core.Path.{sym, ◌∙◌}
 use native.Mathlib.Omega.{arith}
-use borrow.Author.Rules.{rules}
-use lib.ListN.{drop, drop_of_length-le}
-use lib.Seq.{sets}
-use Rattle.obligations.specs.Sequence.{words}
+use lib.ListN.{drop_of_length-le}
 use Rattle.obligations.proofs.SequenceLaws.{words_nil}
-use Rattle.sequences.specs.Follow.{followed_from, followed}
+use Rattle.sequences.specs.Follow.{followed_from}
 use Rattle.sequences.proofs.FollowLaws.{write_step}
 use Rattle.sequences.proofs.following.write_followed.Goals as goal
 

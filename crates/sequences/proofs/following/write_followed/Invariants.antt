@@ -1,13 +1,9 @@
 use Prim.Native.Nat.{◌*◌, ◌-◌, ◌≤◌}
-use mathlib.Core.Path.{◌≡◌, refl, sym, ◌∙◌}
-use native.Mathlib.Omega.{arith}
-use borrow.Author.Rules.{rules}
-use lib.ListN.{drop, drop_of_length-le}
+use mathlib.Core.Path.{◌≡◌}
+use lib.ListN.{drop}
 use lib.Seq.{sets}
 use Rattle.obligations.specs.Sequence.{words}
-use Rattle.obligations.proofs.SequenceLaws.{words_nil}
 use Rattle.sequences.specs.Follow.{followed_from, followed}
-use Rattle.sequences.proofs.FollowLaws.{write_step}
 use Rattle.sequences.proofs.following.write_followed.Given as goal
 
 abbrev pub invariant-loop-i : goal.invariant-loop-i

@@ -1,6 +1,5 @@
 -- `gain_set` meets its contract, case by case of what `put_counted` answers, and a raise where the set is on its side. Assumes
 -- nothing.
-use borrow.Author.Rules.{rules}
 use mathlib.Core.Path.{◌∙◌, ap}
 use mathlib.Core.Logic.{inl, inr}
 use lib.ListN.{length}

@@ -1,7 +1,6 @@
 -- `first_missing` meets its contract. The outer loop's invariant: both sets of each position before i are on their sides; an inner
 -- one's: whether the set is on the side is whether it is among the places left. Assumes nothing.
-use Prim.Native.Nat.{◌+◌, ◌-◌, ◌<◌}
-use mathlib.Core.Logic.{⊎_elim}
+use Prim.Native.Nat.{◌+◌, ◌<◌}
 use mathlib.Core.Path.{sym}
 use native.Mathlib.Omega.{arith}
 use lib.ListN.{get_or}
@@ -9,27 +8,27 @@ use Rattle.net.specs.Inner.{Sides}
 use Rattle.net.specs.declared.Side.TheVariants.{Input, Output}
 use Rattle.net.proofs.OrderlyLaws.{orderly_arrays}
 use Rattle.sequences.proofs.WordLaws.{activity_below}
-use Rattle.sequences.proofs.JudgeLaws.{Searching, searching_start, searching_found, searching_next, searching_end}
-use Rattle.sequences.proofs.MissingLaws.{Passed, passed_none, passed_next, all_passed, input_missing, output_missing}
+use Rattle.sequences.proofs.JudgeLaws.{searching_found, searching_next, searching_end}
+use Rattle.sequences.proofs.MissingLaws.{passed_next, all_passed, input_missing, output_missing}
 use Rattle.sequences.proofs.judging.first_missing.Goals as goal
 use Rattle.sequences.proofs.judging.first_missing.Goals.{else-positions-test, then-positions-test+then-j-inputs_end, then-positions-test+else-j-inputs_end+then-net-j+then-k-outputs_end}
 
 pub bounds-net-j : goal.bounds-net-j
 bounds-net-j c =
     let below : get_or c.args.words.now c.positions.at 0 < 32 =
-        let p = c.positions in
-        activity_below c.args.words.now c.args.n c.requires.within_limits p.i p.at c.positions-test.true p.invariant.place_is in
+    let p = c.positions in
+    activity_below c.args.words.now c.args.n c.requires.within_limits p.i p.at c.positions-test.true p.invariant.place_is in
     let input-sides : Sides c.args.net.inputs c.args.net.input_len =
-        orderly_arrays c.args.net c.requires.net_value Input in
+    orderly_arrays c.args.net c.requires.net_value Input in
     omega (arith, below, input-sides.masks_long, input-sides.at_most (get_or c.args.words.now c.positions.at 0) below)
 
 pub loop-j-preserved : goal.loop-j-preserved
 loop-j-preserved c =
     let input-sides : Sides c.args.net.inputs c.args.net.input_len =
-        orderly_arrays c.args.net c.requires.net_value Input in
+    orderly_arrays c.args.net c.requires.net_value Input in
     let below : get_or c.args.words.now c.positions.at 0 < 32 =
-        let p = c.positions in
-        activity_below c.args.words.now c.args.n c.requires.within_limits p.i p.at c.positions-test.true p.invariant.place_is in
+    let p = c.positions in
+    activity_below c.args.words.now c.args.n c.requires.within_limits p.i p.at c.positions-test.true p.invariant.place_is in
     let p = c.positions in
     let net = c.args.net in
     let ws = c.args.words.now in
@@ -39,19 +38,19 @@ loop-j-preserved c =
 pub bounds-net-k : goal.bounds-net-k
 bounds-net-k c =
     let below : get_or c.args.words.now c.positions.at 0 < 32 =
-        let p = c.positions in
-        activity_below c.args.words.now c.args.n c.requires.within_limits p.i p.at c.positions-test.true p.invariant.place_is in
+    let p = c.positions in
+    activity_below c.args.words.now c.args.n c.requires.within_limits p.i p.at c.positions-test.true p.invariant.place_is in
     let output-sides : Sides c.args.net.outputs c.args.net.output_len =
-        orderly_arrays c.args.net c.requires.net_value Output in
+    orderly_arrays c.args.net c.requires.net_value Output in
     omega (arith, below, output-sides.masks_long, output-sides.at_most (get_or c.args.words.now c.positions.at 0) below)
 
 pub loop-k-preserved : goal.loop-k-preserved
 loop-k-preserved c =
     let output-sides : Sides c.args.net.outputs c.args.net.output_len =
-        orderly_arrays c.args.net c.requires.net_value Output in
+    orderly_arrays c.args.net c.requires.net_value Output in
     let below : get_or c.args.words.now c.positions.at 0 < 32 =
-        let p = c.positions in
-        activity_below c.args.words.now c.args.n c.requires.within_limits p.i p.at c.positions-test.true p.invariant.place_is in
+    let p = c.positions in
+    activity_below c.args.words.now c.args.n c.requires.within_limits p.i p.at c.positions-test.true p.invariant.place_is in
     let p = c.positions in
     let net = c.args.net in
     let ws = c.args.words.now in
@@ -61,12 +60,12 @@ loop-k-preserved c =
 pub positions-preserved : goal.positions-preserved
 positions-preserved c =
     let input-sides : Sides c.args.net.inputs c.args.net.input_len =
-        orderly_arrays c.args.net c.requires.net_value Input in
+    orderly_arrays c.args.net c.requires.net_value Input in
     let below : get_or c.args.words.now c.positions.at 0 < 32 =
-        let p = c.positions in
-        activity_below c.args.words.now c.args.n c.requires.within_limits p.i p.at c.positions-test.true p.invariant.place_is in
+    let p = c.positions in
+    activity_below c.args.words.now c.args.n c.requires.within_limits p.i p.at c.positions-test.true p.invariant.place_is in
     let output-sides : Sides c.args.net.outputs c.args.net.output_len =
-        orderly_arrays c.args.net c.requires.net_value Output in
+    orderly_arrays c.args.net c.requires.net_value Output in
     let p = c.positions in
     let net = c.args.net in
     let ws = c.args.words.now in

@@ -1,14 +1,6 @@
-use Prim.Native.Nat.{◌+◌, ◌-◌, ◌<◌}
-use mathlib.Core.Logic.{⊎_elim}
-use mathlib.Core.Path.{sym}
-use native.Mathlib.Omega.{arith}
-use lib.ListN.{get_or}
-use Rattle.net.specs.Inner.{Sides}
-use Rattle.net.specs.declared.Side.TheVariants.{Input, Output}
-use Rattle.net.proofs.OrderlyLaws.{orderly_arrays}
-use Rattle.sequences.proofs.WordLaws.{activity_below}
-use Rattle.sequences.proofs.JudgeLaws.{Searching, searching_start, searching_found, searching_next, searching_end}
-use Rattle.sequences.proofs.MissingLaws.{Passed, passed_none, passed_next, all_passed, input_missing, output_missing}
+use Prim.Native.Nat.{◌-◌}
+use Rattle.sequences.proofs.JudgeLaws.{Searching}
+use Rattle.sequences.proofs.MissingLaws.{Passed}
 use Rattle.sequences.proofs.judging.first_missing.Given as goal
 
 abbrev pub invariant-loop-j : goal.invariant-loop-j

@@ -2,7 +2,6 @@
 use mathlib.Core.Path.{sym, ◌∙◌}
 use Rattle.obligations.specs.Sequence.{bindings}
 use Rattle.sequences.proofs.JudgeLaws.{run_impossible, run_left, run_settled}
-use borrow.Author.Rules.{rules}
 use Rattle.sequences.proofs.judging.run_judged.Goals as goal
 
 pub returns-in-Impossible : goal.returns-in-Impossible

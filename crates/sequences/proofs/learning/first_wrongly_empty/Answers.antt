@@ -1,14 +1,13 @@
 -- `first_wrongly_empty` meets its contract. The loop's invariant: at each position before i the sets are empty and filled as they
 -- have to be. Assumes nothing.
-use Prim.Native.Nat.{◌+◌, ◌*◌, ◌-◌, ◌≤◌}
+use Prim.Native.Nat.{◌+◌}
 use mathlib.Core.Bool.{beq}
-use mathlib.Core.Path.{◌≡◌, sym}
+use mathlib.Core.Path.{sym}
 use native.Mathlib.Omega.{arith}
 use borrow.Author.Tests.{not-true, not-false}
 use lib.Dec.{eqb}
 use lib.ListN.{get_or}
 use Rattle.obligations.specs.Sequence.{bindings}
-use Rattle.obligations.proofs.PositionLaws.{AllPass}
 use Rattle.obligations.proofs.TraceLaws.{pass_more}
 use Rattle.sequences.specs.Learn.{empty_agree}
 use Rattle.sequences.proofs.WordLaws.{positions_many, input_here, output_here}

@@ -2,7 +2,6 @@
 use mathlib.Core.Path.{sym, ◌∙◌}
 use borrow.Author.Tests.{not-true, not-false}
 use Rattle.sequences.proofs.LearnLaws.{refused_disorderly, refused_limits, learned_positions}
-use borrow.Author.Rules.{rules}
 use Rattle.sequences.proofs.learning.learn.Goals as goal
 
 pub returns-then-not-is_orderly : goal.returns-then-not-is_orderly

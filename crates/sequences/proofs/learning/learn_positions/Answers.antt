@@ -1,10 +1,8 @@
 -- `learn_positions` meets its contract: each return is a link of the chain of refusals. Assumes nothing.
 use mathlib.Core.Path.{◌∙◌}
-use borrow.Author.Tests.{not-true, not-false}
 use Rattle.obligations.specs.Sequence.{bindings}
 use Rattle.sequences.proofs.WordLaws.{shaped-same}
 use Rattle.sequences.proofs.LearnLaws.{refused_ends, refused_empty, refused_impossible, refused_left, gained_or_full}
-use borrow.Author.Rules.{rules}
 use Rattle.sequences.proofs.learning.learn_positions.Goals as goal
 
 pub returns-then-not-is_shaped : goal.returns-then-not-is_shaped

@@ -2,7 +2,6 @@
 -- is the length exactly where the words are a multiple of three. Then each answer is a law of the limits. Assumes nothing.
 use native.Mathlib.Omega.{arith}
 use Rattle.sequences.proofs.LimitLaws.{words_uneven, words_many, limits_too_long, limits_no_activity, limits_within}
-use borrow.Author.Rules.{rules}
 use Rattle.sequences.proofs.limits.sequence_limits.Goals as goal
 
 pub returns-then-size-gt-SEQUENCE_WORDS : goal.returns-then-size-gt-SEQUENCE_WORDS

@@ -2,7 +2,6 @@
 use mathlib.Core.Path.{sym, ◌∙◌}
 use native.Mathlib.Omega.{arith}
 use Rattle.sequences.proofs.LimitLaws.{trace_too_long, trace_no_activity, trace_within_lem}
-use borrow.Author.Rules.{rules}
 use Rattle.sequences.proofs.limits.trace_limits.Goals as goal
 
 pub returns-then-n-gt-POSITIONS : goal.returns-then-n-gt-POSITIONS

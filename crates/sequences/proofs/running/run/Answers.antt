@@ -1,8 +1,6 @@
 -- `run` meets its contract: the loop's invariant is `Running`, and each way out is one of its laws. Assumes nothing.
-use Prim.Native.Nat.{◌-◌}
 use mathlib.Core.Path.{sym}
-use borrow.Author.Rules.{rules}
-use Rattle.sequences.proofs.RunLaws.{Running, running_start, running_state, running_settled, running_left, running_impossible, running_next}
+use Rattle.sequences.proofs.RunLaws.{running_start, running_state, running_settled, running_left, running_impossible, running_next}
 use Rattle.sequences.proofs.WordLaws.{activity_below}
 use Rattle.sequences.proofs.running.run.Goals as goal
 

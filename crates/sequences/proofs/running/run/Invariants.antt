@@ -1,8 +1,5 @@
 use Prim.Native.Nat.{◌-◌}
-use mathlib.Core.Path.{sym}
-use borrow.Author.Rules.{rules}
-use Rattle.sequences.proofs.RunLaws.{Running, running_start, running_state, running_settled, running_left, running_impossible, running_next}
-use Rattle.sequences.proofs.WordLaws.{activity_below}
+use Rattle.sequences.proofs.RunLaws.{Running}
 use Rattle.sequences.proofs.running.run.Given as goal
 
 abbrev pub invariant-loop-i : goal.invariant-loop-i
