@@ -1,0 +1,14 @@
+use Prim.Native.Nat.{ℕ, ◌-◌, ◌<◌}
+use mathlib.Core.Path.{◌≡◌, refl}
+use native.Mathlib.Omega.{arith}
+use borrow.Author.Rules.{rules}
+use lib.ListN.{length, get_or}
+use Rattle.machine.specs.Buffers.{untouched_word}
+use Rattle.machine.proofs.BufferLaws.{filled_next}
+use Rattle.machine.proofs.buffers.fill_words.Given as goal
+
+abbrev pub invariant-loop-k : goal.invariant-loop-k
+invariant-loop-k l = (length l.words ≡ length l.initial.words) × ((i : ℕ) → i < l.k → get_or l.words i 0 ≡ untouched_word i)
+
+abbrev pub decreases-loop-k : goal.decreases-loop-k
+decreases-loop-k l = length l.initial.words - l.k

@@ -1,0 +1,12 @@
+use Prim.Native.Nat.{◌-◌, ◌≤◌}
+use mathlib.Core.Path.{◌≡◌}
+use borrow.Author.Rules.{rules}
+use lib.ListN.{length}
+use Rattle.machine.proofs.CountLaws.{counts}
+use Rattle.machine.proofs.numbers.read_numbers.Given as goal
+
+abbrev pub invariant-loop-k : goal.invariant-loop-k
+invariant-loop-k l = (l.k ≤ l.e) × (l.w ≤ l.k) × (length l.numbers ≡ length l.initial.numbers) × (l.n ≤ length l.initial.numbers)
+
+abbrev pub decreases-loop-k : goal.decreases-loop-k
+decreases-loop-k l = l.e - l.k
