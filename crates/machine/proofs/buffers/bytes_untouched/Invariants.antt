@@ -1,10 +1,7 @@
 use Prim.Native.Nat.{◌-◌}
-use mathlib.Core.Path.{◌≡◌, refl, sym, ◌∙◌}
-use native.Mathlib.Omega.{arith}
-use borrow.Author.Rules.{rules}
+use mathlib.Core.Path.{◌≡◌}
 use lib.ListN.{length, drop}
 use Rattle.machine.specs.Buffers.{untouched_byte, all_from}
-use Rattle.machine.proofs.BufferLaws.{same_on, differs_at, none_left}
 use Rattle.machine.proofs.buffers.bytes_untouched.Given as goal
 
 abbrev pub invariant-loop-k : goal.invariant-loop-k

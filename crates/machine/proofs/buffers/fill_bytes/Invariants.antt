@@ -1,10 +1,7 @@
 use Prim.Native.Nat.{ℕ, ◌-◌, ◌<◌}
-use mathlib.Core.Path.{◌≡◌, refl}
-use native.Mathlib.Omega.{arith}
-use borrow.Author.Rules.{rules}
+use mathlib.Core.Path.{◌≡◌}
 use lib.ListN.{length, get_or}
 use Rattle.machine.specs.Buffers.{untouched_byte}
-use Rattle.machine.proofs.BufferLaws.{filled_next}
 use Rattle.machine.proofs.buffers.fill_bytes.Given as goal
 
 abbrev pub invariant-loop-k : goal.invariant-loop-k

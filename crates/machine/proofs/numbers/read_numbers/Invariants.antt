@@ -1,8 +1,6 @@
 use Prim.Native.Nat.{◌-◌, ◌≤◌}
 use mathlib.Core.Path.{◌≡◌}
-use borrow.Author.Rules.{rules}
 use lib.ListN.{length}
-use Rattle.machine.proofs.CountLaws.{counts}
 use Rattle.machine.proofs.numbers.read_numbers.Given as goal
 
 abbrev pub invariant-loop-k : goal.invariant-loop-k

@@ -1,8 +1,6 @@
 use Prim.Native.Nat.{◌-◌, ◌≤◌}
 use mathlib.Core.Path.{◌≡◌}
-use borrow.Author.Rules.{rules}
 use lib.ListN.{length}
-use Rattle.machine.proofs.CountLaws.{counts}
 use Rattle.machine.proofs.numbers.words_from.Given as goal
 
 abbrev pub invariant-loop-i : goal.invariant-loop-i
