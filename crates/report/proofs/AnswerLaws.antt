@@ -28,12 +28,6 @@ no_row (Row s n) x e h a t q = h s n refl
 no_row End x e h a t q = let z : ◌≡◌ {A = ℕ} 0 1 = ap (λ (r : RowSays). r.says.value) (e ∙ ap reading_says q) in omega arith
 no_row (Refused n p) x e h a t q = let z : ◌≡◌ {A = ℕ} 0 1 = ap (λ (r : RowSays). r.says.value) (e ∙ ap reading_says q) in omega arith
 
--- an answer of another kind is no row
-pub not-row : (a : RowAnswer) → OneOf (1 ∷ 2 ∷ []) (tag_of row-answer.the_type a) → (s n : ℕ) → a ≡ Row s n → ⊥
-not-row (Row s n) h a b q = ⊎_elim (λ e. omega arith) (λ e. omega arith) h
-not-row End h a b q = let z : ◌≡◌ {A = ℕ} 0 1 = ap (λ (r : RowSays). r.says.value) (ap row_means q) in omega arith
-not-row (Refused n p) h a b q = let z : ◌≡◌ {A = ℕ} 0 1 = ap (λ (r : RowSays). r.says.value) (ap row_means q) in omega arith
-
 -- the front of a buffer with a trace at its front
 pub front_is : (t buf out : List ℕ) (n : ℕ) → out ≡ t ++ drop (length t) buf → length t ≡ n → take n out ≡ t
 front_is t buf out n e q = rw (e, sym q) (take-append_seam t (drop (length t) buf))

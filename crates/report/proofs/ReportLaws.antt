@@ -29,10 +29,10 @@ use Rattle.report.specs.Report.{file_bytes, report_room, net_word, log_word, rep
 use Rattle.report.proofs.TextLaws.{refusal_short, rows_short}
 
 -- an answer of another kind is no refusal
-pub not_refused : (a : RowAnswer) → OneOf (0 ∷ 1 ∷ []) (tag_of row-answer.the_type a) → (row_means a).says.ok ≡ true
+pub not_refused : (a : RowAnswer) → ((n p : ℕ) → a ≡ Refused n p → ⊥) → (row_means a).says.ok ≡ true
 not_refused (Row s n) h = refl
 not_refused End h = refl
-not_refused (Refused n p) h = absurd (⊎_elim (λ e. omega arith) (λ e. omega arith) h)
+not_refused (Refused n p) h = absurd (h n p refl)
 
 -- ---- the log
 

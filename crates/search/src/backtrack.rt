@@ -19,7 +19,7 @@ use obligations::{PAIRS, state};
 // The search from position `at` on, in the state `due`, with `trials` trials made before: the input sets in their order.
 // An input set that isn't possible fails with every output set, so the pairs of all those up to the next possible one are
 // counted at once.
-#[cycle(search_inputs_search_outputs)]
+#[cycle(search)]
 pub fn search_inputs<'a>(
     inputs: &'a [u32; PLACES],
     input_len: &'a [u32; LISTS],
@@ -71,7 +71,7 @@ pub fn search_inputs<'a>(
 
 // The search from position `at` on with the input set x, for which `due` has been lowered already: the output sets in
 // their order.
-#[cycle(search_inputs_search_outputs)]
+#[cycle(search)]
 fn search_outputs<'a>(
     inputs: &'a [u32; PLACES],
     input_len: &'a [u32; LISTS],
