@@ -2,11 +2,8 @@
 -- front is one that a replay takes. Assumes nothing.
 use Prim.Native.Nat.{ℕ, ◌*◌, ◌≤◌}
 use mathlib.Core.Path.{◌≡◌, refl, sym, ap, ◌∙◌}
-use mathlib.Core.List.{List, [], ◌∷◌, ◌++◌}
-use mathlib.Core.Logic.{⊎_elim}
+use mathlib.Core.List.{List, ◌++◌}
 use native.Mathlib.Omega.{arith}
-use denote.Enum.Declared.{tag_of}
-use types.Run.{OneOf}
 use lib.ListN.{length, take, drop}
 use lib.Seq.{take-append_seam}
 use Rattle.obligations.specs.Limits.{positions}
@@ -14,7 +11,6 @@ use Rattle.obligations.proofs.ListLaws.{member-at}
 use Rattle.logfile.specs.LogFile.{RowReading, row, end, fault, RowSays, row_means, reading_says, read_row}
 use Rattle.logfile.specs.declared.RowAnswer.{RowAnswer}
 use Rattle.logfile.specs.declared.RowAnswer.TheVariants.{Row, End, Refused}
-use Rattle.logfile.specs.contracts.RowAnswer as row-answer
 use Rattle.logfile.proofs.Theorems.{row-is_trace}
 use Rattle.search.specs.Trace.{TraceWithRoom}
 

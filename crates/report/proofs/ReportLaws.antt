@@ -1,13 +1,10 @@
 -- Laws of the report, case by case in the order of the tests, and its length. Assumes nothing.
 use Prim.Native.Nat.{ℕ, ◌+◌, ◌≤◌, ◌<◌}
 use mathlib.Core.Path.{◌≡◌, refl, ap}
-use mathlib.Core.Logic.{⊎_elim}
 use mathlib.Core.Bool.{Bool, true, false, cond}
 use mathlib.Core.List.{List, [], ◌∷◌, ◌++◌}
 use native.Mathlib.Omega.{arith}
 use borrow.Author.Tests.{le-leb, lt-leb}
-use denote.Enum.Declared.{tag_of}
-use types.Run.{OneOf}
 use lib.Dec.{leb}
 use lib.ListN.{length, length-append}
 use Rattle.obligations.specs.Limits.{positions}
@@ -24,7 +21,6 @@ use Rattle.logfile.specs.Limits.{log_rows}
 use Rattle.logfile.specs.LogFile.{RowSays, row_means, reading_says, read_row}
 use Rattle.logfile.specs.declared.RowAnswer.{RowAnswer}
 use Rattle.logfile.specs.declared.RowAnswer.TheVariants.{Row, End, Refused}
-use Rattle.logfile.specs.contracts.RowAnswer as row-answer
 use Rattle.report.specs.Report.{file_bytes, report_room, net_word, log_word, report_header, refusal_text, rows_text, log_says, log_text, read_checked, report_text}
 use Rattle.report.proofs.TextLaws.{refusal_short, rows_short}
 

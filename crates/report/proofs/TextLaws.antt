@@ -13,9 +13,8 @@ use Rattle.net.specs.declared.Net.{Net}
 use Rattle.logfile.specs.Limits.{log_rows, most_sessions}
 use Rattle.logfile.specs.LogFile.{RowReading, row, end, fault, read_row}
 use Rattle.logfile.proofs.Theorems.{row-is_trace, later_same}
-use Rattle.search.specs.Search.{found}
 use Rattle.search.proofs.ReplayLaws.{said_within}
-use Rattle.search.specs.Replay.{ReplaySays, says_found, says_none, says_spent, says_refused, within_budget, checked_says}
+use Rattle.search.specs.Replay.{ReplaySays, says_found, says_none, says_spent, says_refused, checked_says}
 use Rattle.text.proofs.DigitLaws.{number_below, number-within}
 use Rattle.report.specs.Report.{row_budget, refused_word, answer_word, answer_trials, refusal_text, report_line, reading_text, rows_text}
 

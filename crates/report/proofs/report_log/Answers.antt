@@ -29,9 +29,9 @@ returns-in-Refused c =
 
 pub write_rows-requires : goal.write_rows-requires
 write_rows-requires c = let s = c.args in record {
-      net_value = c.requires.0;
-      log_rows_in_bounds = omega (arith, rows_room s.net s.text.now);
-    }
+  net_value = c.requires.0;
+  log_rows_in_bounds = omega (arith, rows_room s.net s.text.now);
+}
 
 pub returns : goal.returns
 returns c =

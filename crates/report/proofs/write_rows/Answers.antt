@@ -1,21 +1,19 @@
 -- `write_rows` meets its contract. The loop's invariant: the reader stands at row `row`, and the lines of the rows from there
 -- on, stored, give the buffer with all lines stored. Assumes nothing.
-use Prim.Native.Nat.{◌+◌, ◌-◌, ◌*◌}
-use mathlib.Core.Path.{◌≡◌, refl, sym, ap, ◌∙◌}
+use Prim.Native.Nat.{◌+◌, ◌-◌}
+use mathlib.Core.Path.{refl, ◌∙◌}
 use native.Mathlib.Omega.{arith}
 use borrow.Author.Rules.{rules}
-use lib.ListN.{length, drop, length-append}
-use lib.Seq.{length-take-le}
-use Rattle.obligations.specs.Limits.{positions}
-use Rattle.text.proofs.StoreLaws.{Storing, storing_start, storing_room, storing_more, storing_end}
+use lib.ListN.{length}
+use Rattle.text.proofs.StoreLaws.{storing_start, storing_room, storing_more, storing_end}
 use Rattle.net.specs.declared.Side.TheVariants.{Input, Output}
 use Rattle.net.proofs.OrderlyLaws.{orderly_arrays}
 use Rattle.logfile.specs.Limits.{log_rows}
 use Rattle.search.specs.Backtrack.{outcome_means}
 use Rattle.report.specs.Report.{report_line, rows_text}
-use Rattle.report.proofs.AnswerLaws.{not-row, front_is, row-with_room}
+use Rattle.report.proofs.AnswerLaws.{front_is, row-with_room}
 use Rattle.report.proofs.TextLaws.{rows_done, rows_none}
-use Rattle.report.proofs.StandingLaws.{Standing, standing-start, standing_row, standing_none, standing_more}
+use Rattle.report.proofs.StandingLaws.{standing-start, standing_row, standing_none, standing_more}
 use Rattle.report.proofs.RowLaws.{row_line}
 use Rattle.report.proofs.write_rows.Goals as goal
 

@@ -1,20 +1,11 @@
 use Prim.Native.Nat.{◌+◌, ◌-◌, ◌*◌}
-use mathlib.Core.Path.{◌≡◌, refl, sym, ap, ◌∙◌}
-use native.Mathlib.Omega.{arith}
-use borrow.Author.Rules.{rules}
-use lib.ListN.{length, drop, length-append}
-use lib.Seq.{length-take-le}
+use mathlib.Core.Path.{◌≡◌}
+use lib.ListN.{length}
 use Rattle.obligations.specs.Limits.{positions}
-use Rattle.text.proofs.StoreLaws.{Storing, storing_start, storing_room, storing_more, storing_end}
-use Rattle.net.specs.declared.Side.TheVariants.{Input, Output}
-use Rattle.net.proofs.OrderlyLaws.{orderly_arrays}
+use Rattle.text.proofs.StoreLaws.{Storing}
 use Rattle.logfile.specs.Limits.{log_rows}
-use Rattle.search.specs.Backtrack.{outcome_means}
-use Rattle.report.specs.Report.{report_line, rows_text}
-use Rattle.report.proofs.AnswerLaws.{not-row, front_is, row-with_room}
-use Rattle.report.proofs.TextLaws.{rows_done, rows_none}
-use Rattle.report.proofs.StandingLaws.{Standing, standing-start, standing_row, standing_none, standing_more}
-use Rattle.report.proofs.RowLaws.{row_line}
+use Rattle.report.specs.Report.{rows_text}
+use Rattle.report.proofs.StandingLaws.{Standing}
 use Rattle.report.proofs.write_rows.Given as goal
 
 abbrev pub invariant-loop-row : goal.invariant-loop-row

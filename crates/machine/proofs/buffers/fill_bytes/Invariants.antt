@@ -1,3 +1,4 @@
+-- `fill_bytes` meets its contract: the elements below k are filled, and storing keeps the length. Assumes nothing.
 use Prim.Native.Nat.{ℕ, ◌-◌, ◌<◌}
 use mathlib.Core.Path.{◌≡◌}
 use lib.ListN.{length, get_or}

@@ -1,3 +1,5 @@
+-- `read_numbers` meets its contract: each turn starts behind the field before, and stores below the buffer's length.
+-- Assumes nothing.
 use Prim.Native.Nat.{◌-◌, ◌≤◌}
 use mathlib.Core.Path.{◌≡◌}
 use lib.ListN.{length}

@@ -1,3 +1,5 @@
+-- `words_from` meets its contract: each turn stores one word below the buffer's length, and a number is cast only if
+-- it fits. Assumes nothing.
 use Prim.Native.Nat.{◌-◌, ◌≤◌}
 use mathlib.Core.Path.{◌≡◌}
 use lib.ListN.{length}

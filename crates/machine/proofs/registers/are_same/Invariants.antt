@@ -1,3 +1,4 @@
+-- `are_same` meets its contract: both records lie within the registers. Assumes nothing.
 use Prim.Native.Nat.{◌-◌, ◌≤◌}
 use Rattle.machine.proofs.registers.are_same.Given as goal
 

@@ -1,3 +1,4 @@
+-- `copy_words` meets its contract: both ranges lie within their lists. Assumes nothing.
 use Prim.Native.Nat.{◌-◌, ◌≤◌}
 use mathlib.Core.Path.{◌≡◌}
 use lib.ListN.{length}

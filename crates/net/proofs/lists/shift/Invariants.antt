@@ -1,3 +1,5 @@
+-- `shift` meets its contract: the loop keeps that the places passed, and behind them the carried element and the rest, are the
+-- new element and the whole. Assumes nothing.
 use Prim.Native.Nat.{◌≤◌, ◌-◌}
 use mathlib.Core.Path.{◌≡◌}
 use mathlib.Core.List.{◌∷◌, ◌++◌}

@@ -1,8 +1,5 @@
 -- `write_last` meets its contract: three pieces, one after the other. Assumes nothing.
-use native.Mathlib.Omega.{arith}
-use borrow.Author.Rules.{rules}
 use Rattle.text.proofs.WriteLaws.{wrote_append}
-use Rattle.report.proofs.TextLaws.{last_width}
 use Rattle.report.proofs.write.write_last.Goals as goal
 
 pub returns : goal.returns

@@ -1,7 +1,6 @@
 -- `write_refusal` meets its contract: five pieces, one after the other. Assumes nothing.
 use mathlib.Core.List.{[], ◌∷◌}
 use native.Mathlib.Omega.{arith}
-use borrow.Author.Rules.{rules}
 use Rattle.text.specs.Fields.{comma}
 use Rattle.text.proofs.WriteLaws.{wrote_append}
 use Rattle.report.proofs.TextLaws.{last_width, refusal_bytes, refusal_width}

@@ -1,3 +1,4 @@
+-- `count_byte` meets its contract. The loop's invariant: the count of the whole part is the count so far and that of what is left. Assumes nothing.
 use Prim.Native.Nat.{◌+◌, ◌-◌, ◌≤◌}
 use mathlib.Core.Path.{◌≡◌}
 use lib.Seq.{slice}

@@ -1,3 +1,4 @@
+-- `find_byte` meets its contract. The loop's invariant: the first c of the whole part is the first c of what is left. Assumes nothing.
 use Prim.Native.Nat.{◌+◌, ◌-◌, ◌≤◌}
 use mathlib.Core.Path.{◌≡◌}
 use lib.Seq.{slice}

@@ -1,3 +1,4 @@
+-- `write_bytes` meets its contract. The loop's invariant: the rest of t, stored, gives the buffer with t stored. Assumes nothing.
 use Prim.Native.Nat.{◌+◌, ◌-◌, ◌≤◌}
 use mathlib.Core.Path.{◌≡◌}
 use lib.ListN.{length, drop}
