@@ -1,4 +1,4 @@
--- Valid in a net (01, "Obligations and the step"; 000, Definition 3): well_formed, and each set on its side.
+-- Valid in a net (01, "Obligations and the step"; 000, Definition 3): well-formed, and each set on its side.
 use Rattle.std.specs.Prelude.{ℕ, ◌<◌, List, length}
 use Rattle.obligations.specs.Sequence.{Binding, at, WellFormed}
 use Rattle.net.specs.Sides.{OnSide}

@@ -45,7 +45,7 @@ Possible d b = (p : ℕ) → p < activities → member b.input p ≡ true → 1 
 abbrev pub NothingLeft : List ℕ → Type 0
 NothingLeft d = (p q : ℕ) → p < activities → q < activities → count d p q ≡ 0
 
--- well_formed for a start and an end. i is the number of positions before the one spoken of.
+-- well-formed for a start and an end. i is the number of positions before the one spoken of.
 pub record WellFormed (start end : ℕ) (s : List Binding) : Type 0 where
   pub activities_only : (i : ℕ) → i < length s → (at s i).activity < activities
   pub shape : Shaped start end (length s) (λ i. (at s i).activity)

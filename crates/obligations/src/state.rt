@@ -12,7 +12,7 @@ ghost use Rattle.obligations.specs.State.{places_of, all_due, lowered, raised, p
 use crate::sets::size;
 use crate::{ACTIVITIES, PAIRS};
 
-// The test for an all_zero state goes by parts of the counts: how many there are, and how long each is.
+// The test for an all-zero state goes by parts of the counts: how many there are, and how long each is.
 const PARTS: usize = 4;
 
 const PART: usize = PAIRS / PARTS;

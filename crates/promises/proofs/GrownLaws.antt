@@ -1,5 +1,5 @@
 -- The net after a list of calls: it holds exactly what it held and the sets of the sequences accepted, each of which is
--- well_formed for its start and end, and has counted their uses. One call after the other. Assumes nothing.
+-- well-formed for its start and end, and has counted their uses. One call after the other. Assumes nothing.
 use Prim.Native.Nat.{ℕ, ◌+◌}
 use mathlib.Core.Path.{◌≡◌, refl, sym, ap, subst, ◌∙◌}
 use mathlib.Core.Bool.{Bool, true, false, cond}
@@ -29,7 +29,7 @@ pub record SetOfSome (side : Side) (ss : List (List Binding)) (a m : ℕ) : Type
   pub among : Memᴰ sequence ss
   pub set_of : SetOf side sequence a m
 
--- a net with the sets of several sequences more, each of them well_formed for its start and end
+-- a net with the sets of several sequences more, each of them well-formed for its start and end
 pub record Grown (net after : Net) (ss : List (List Binding)) : Type 0 where
   pub same_start : after.start ≡ net.start
   pub same_end : after.end ≡ net.end
@@ -51,7 +51,7 @@ grown_none net o = record {
   each_formed = λ s m. absurd (Memᴰ.not-nil m);
 }
 
--- well_formed for the start and end of a net that has the same
+-- well-formed for the start and end of a net that has the same
 formed_as : {s : List Binding} (start end start' end' : ℕ) → start ≡ start' → end ≡ end' → WellFormed start end s → WellFormed start' end' s
 formed_as {s} start end start' end' e f w = subst (λ (a : ℕ). WellFormed a end' s) e (subst (λ (b : ℕ). WellFormed start b s) f w)
 

@@ -1,5 +1,5 @@
 -- Which sequences are accepted: every link of the chain passes exactly if its sentence doesn't hold, and together they say
--- well_formed, fitting and countable. Assumes nothing.
+-- well-formed, fitting and countable. Assumes nothing.
 use Prim.Native.Nat.{ℕ, ◌+◌, ◌*◌, ◌/◌, ◌%◌, ◌≤◌, ◌<◌}
 use mathlib.Core.Path.{◌≡◌}
 use mathlib.Core.Bool.{true, beq}
@@ -82,7 +82,7 @@ whole_words ws n e h = and_both (eq-eqb (length ws % 3) 0 (omega arith)) (le-leb
 
 -- ---- what learn accepts
 
--- well_formed, by the tests of a chain
+-- well-formed, by the tests of a chain
 module _ (start end : ℕ) (s : List Binding) where
   pub tests_well_formed : first_no_activity (length s) (λ i. (at s i).activity) ≡ 0 → shaped start end (length s) (λ i. (at s i).activity) ≡ true → EmptyWhere s
       → first_impossible s ≡ 0 → all_zero (ψ s) ≡ true → WellFormed start end s
@@ -95,7 +95,7 @@ module _ (start end : ℕ) (s : List Binding) where
     nothing_left = (zero_left s).0 z;
   }
 
--- each test, from well_formed
+-- each test, from well-formed
 module _ (start end : ℕ) (s : List Binding) (f : WellFormed start end s) where
   pub formed_activities : first_no_activity (length s) (λ i. (at s i).activity) ≡ 0
   formed_activities = below_activities (length s) (λ i. (at s i).activity) f.activities_only
@@ -112,7 +112,7 @@ module _ (start end : ℕ) (s : List Binding) (f : WellFormed start end s) where
   pub formed_zero : all_zero (ψ s) ≡ true
   formed_zero = (zero_left s).1 f.nothing_left
 
--- the test that a well_formed sequence fits
+-- the test that a well-formed sequence fits
 pub fits_formed : (net : Net) (s : List Binding) → orderly net ≡ true → WellFormed net.start net.end s → (fits net s ≡ true) ↔ Fits net s
 fits_formed net s o f = fits_exactly net s o f.activities_only (well_placed net s f.shape (formed_empty net.start net.end s f))
 

@@ -1,4 +1,4 @@
--- The sequence of a trace: its positions one by one, that it is well_formed where start and end stand as they have to, and
+-- The sequence of a trace: its positions one by one, that it is well-formed where start and end stand as they have to, and
 -- that following is learning it. Each position takes the one obligation that the one before it handed on. Assumes nothing.
 use Prim.Native.Nat.{ℕ, zero, suc, ◌+◌, ◌*◌, ◌^◌, ◌≤◌, ◌<◌}
 use mathlib.Core.Path.{◌≡◌, refl, sym, ap, subst, ◌∙◌}

@@ -45,7 +45,7 @@ JudgeUnanswered =
 
 -- ---- learn
 
--- what learn accepts: an orderly net, and words that are a sequence within the limits, well_formed for the net's start and
+-- what learn accepts: an orderly net, and words that are a sequence within the limits, well-formed for the net's start and
 -- end, whose sets fit and whose uses can be counted
 pub record Learnable (net : Net) (ws : List ℕ) : Type 0 where
   pub net_orderly : Orderly net
@@ -56,7 +56,7 @@ pub record Learnable (net : Net) (ws : List ℕ) : Type 0 where
   pub fitting : Fits net (bindings ws)
   pub counting : Countable net (bindings ws)
 
--- "well_formed and fits, which together mean that no refusal in these papers holds of the call", and since 02, (viii), countable
+-- "well-formed and fits, which together mean that no refusal in these papers holds of the call", and since 02, (viii), countable
 abbrev pub NoneHoldsLearnable : Type 0
 NoneHoldsLearnable = (net : Net) (ws : List ℕ) → NoneHolds (learn_refusals net ws) ↔ Learnable net ws
 
@@ -66,7 +66,7 @@ LearnAccepts =
     (net : Net) (ws : List ℕ) (new : ℕ)
     → (learn_says net ws ≡ learn_means (Learned new)) ↔ (Learnable net ws × (net_size (learn_gives net ws) ≡ net_size net + new))
 
--- the test that a sequence fits is the paper's, of a sequence that is well_formed
+-- the test that a sequence fits is the paper's, of a sequence that is well-formed
 abbrev pub FitsTestRight : Type 0
 FitsTestRight = (net : Net) (s : List Binding) → Orderly net → WellFormed net.start net.end s → (fits net s ≡ true) ↔ Fits net s
 
