@@ -1,24 +1,22 @@
 -- Laws of places in a state: how often a set selects a place, what one less or one more at each selected place makes of
 -- the counts, and one turn of the walk over a set's members. No place is selected twice. Assumes nothing.
-use Prim.Native.Nat.{ℕ, zero, suc, ◌+◌, ◌-◌, ◌*◌, ◌/◌, ◌%◌, ◌^◌, ◌≤◌, ◌<◌}
+use Prim.Native.Nat.{ℕ, zero, suc, ◌+◌, ◌-◌, ◌*◌, ◌/◌, ◌%◌, ◌≤◌, ◌<◌}
 use mathlib.Core.Path.{◌≡◌, refl, sym, ap, subst, ◌∙◌}
 use mathlib.Core.Logic.{◌⊎◌, inl, inr, ⊎_elim}
 use mathlib.Core.Bool.{true, false}
+use mathlib.Core.List.Memᴰ
 use mathlib.Core.List.{List, [], ◌∷◌, map}
 use native.Mathlib.Nat.{mod-lt, mul-le-mul_right, eq-zero-or-pos}
 use native.Mathlib.Omega.{arith}
 use borrow.Author.Tests.{le-leb, leb-true}
-use lib.Bits.{bit_and}
-use lib.Count.{count_trailing_zeros}
 use lib.Dec.{leb, lit<}
 use lib.ListN.{length, get_or, set, length-set, length-map, get_or-eq_default}
-use lib.Pow.{pow_pos}
 use Rattle.obligations.specs.Sets.{bit, single, keep, members_from, members, size}
 use Rattle.obligations.specs.State.{places_of, all_due, lowered, raised, State, most_due}
 use Rattle.obligations.proofs.BoolLaws.{and_left, and_right, and_both}
 use Rattle.obligations.proofs.BitLaws.{bit_lt, bit-zero, bit-suc, same, same_refl, same_cases, same_ne}
 use Rattle.obligations.proofs.SetLaws.{lt_or_le}
-use Rattle.obligations.proofs.MemberLaws.{members_walk, members_none, members-single, lowest-digit, drop-lowest}
+use Rattle.obligations.proofs.MemberLaws.{members_none, members-single, members_are}
 
 -- how often a place stands among places
 unfoldable pub occ : ℕ → List ℕ → ℕ
@@ -225,25 +223,16 @@ pub places-size : (base stride m : ℕ) → length (places_of base stride m) ≡
 unfolding places_of size
 places-size base stride m = length-map (members m) (λ k. base + k * stride)
 
--- ---- one turn of a walk over a set's members, by `rest &= rest - 1`
+-- ---- one turn of a walk over a set's members
 
-pub record Turn (base stride rest : ℕ) : Type 0 where
-  pub member_small : count_trailing_zeros 32 rest < 32
-  pub scaled : count_trailing_zeros 32 rest * stride ≤ 31 * stride
-  pub place : base + count_trailing_zeros 32 rest * stride < 1024
-  pub less : bit_and rest (rest - 1) < rest
-  pub walked : places_of base stride rest ≡ (base + count_trailing_zeros 32 rest * stride) ∷ places_of base stride (bit_and rest (rest - 1))
+-- what comes is an activity, its place is the first, and the places left are those of the members left
+pub member_first : (m k n : ℕ) → members m ≡ k ∷ members n → k < 32
+member_first m k n e = ((members_are m k).0 (rw e (Memᴰ.head refl))).0
 
-pub turn : (base stride rest : ℕ) → base + 31 * stride < 1024 → (rest ≡ 0 → ⊥) → rest < 2 ^ 32 → Turn base stride rest
+pub places_next : (base stride m k n : ℕ) → members m ≡ k ∷ members n → places_of base stride m ≡ (base + k * stride) ∷ places_of base stride n
 unfolding places_of
-turn base stride rest hb ne h =
-    let p : 0 < rest = omega arith in
-    let l = lowest-digit 32 rest p h in
-    let s : count_trailing_zeros 32 rest * stride ≤ 31 * stride = mul-le-mul_right stride (omega arith) in
-    record {
-      member_small = l.0;
-      scaled = s;
-      place = omega arith;
-      less = omega (arith, drop-lowest 32 rest p h, pow_pos (count_trailing_zeros 32 rest));
-      walked = ap (map (λ (k : ℕ). base + k * stride)) (members_walk rest p h);
-    }
+places_next base stride m k n e = ap (map (λ (i : ℕ). base + i * stride)) e
+
+pub places_end : (base stride m : ℕ) → members m ≡ [] → places_of base stride m ≡ []
+unfolding places_of
+places_end base stride m e = ap (map (λ (i : ℕ). base + i * stride)) e

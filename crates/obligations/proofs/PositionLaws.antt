@@ -6,7 +6,8 @@ use mathlib.Core.Logic.{◌⊎◌, inl, inr, ⊎_elim}
 use mathlib.Core.Bool.{Bool, true, false}
 use native.Mathlib.Nat.{zero-add, add-zero}
 use native.Mathlib.Omega.{arith}
-use Rattle.obligations.specs.Tests.{first_from, first_failing}
+use Rattle.obligations.specs.Tests.{first_from, first_failing, position_of}
+use Rattle.std.proofs.Common.{Some, None}
 use Rattle.obligations.proofs.BoolLaws.{true_or_false}
 use Rattle.obligations.proofs.SetLaws.{lt_or_le}
 
@@ -83,3 +84,24 @@ first_ext n t u e =
       before = λ j l. sym (e j (omega (arith, f.inside))) ∙ f.before j l;
       fails = sym (e i f.inside) ∙ f.fails;
     }
+
+-- ---- the answer as an option
+
+pub position_none : {k : ℕ} → k ≡ 0 → position_of k ≡ None
+unfolding position_of
+position_none e = rw e refl
+
+pub position_some : {k i : ℕ} → k ≡ suc i → position_of k ≡ Some (suc i)
+unfolding position_of
+position_some e = rw e refl
+
+-- and back
+pub none_position : (k : ℕ) → position_of k ≡ None → k ≡ 0
+unfolding position_of
+none_position zero e = refl
+none_position (suc i) e = cc
+
+pub some_position : (k p : ℕ) → position_of k ≡ Some p → (k ≡ p) × (0 < p)
+unfolding position_of
+some_position zero p e = cc
+some_position (suc i) p e = let q : suc i ≡ p = cc in (q, omega arith)

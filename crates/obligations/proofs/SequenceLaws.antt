@@ -1,14 +1,14 @@
 -- Laws of sequences: words and bindings, the state after one position more, how far its counts can grow, and the tests of
 -- `possible` and of the last state said of every position. Assumes nothing.
-use Prim.Native.Nat.{ℕ, zero, suc, ◌+◌, ◌*◌, ◌≤◌, ◌<◌}
-use mathlib.Core.Path.{◌≡◌, refl, ap, subst}
+use Prim.Native.Nat.{ℕ, zero, suc, ◌+◌, ◌-◌, ◌*◌, ◌≤◌, ◌<◌}
+use mathlib.Core.Path.{◌≡◌, refl, sym, ap, subst}
 use mathlib.Core.Logic.{⊎_elim, ◌↔◌}
 use mathlib.Core.Bool.{true, ◌&&◌}
 use mathlib.Core.List.{List, [], ◌∷◌, ◌++◌}
 use native.Mathlib.Numerals.{add-one}
 use native.Mathlib.Omega.{arith}
-use lib.ListN.{length, get_or, take}
-use lib.Seq.{take-suc}
+use lib.ListN.{length, get_or, take, drop}
+use lib.Seq.{take-suc, take-length}
 use Rattle.obligations.specs.Limits.{positions}
 use Rattle.obligations.specs.Tests.{first_failing}
 use Rattle.obligations.specs.State.{nothing, possible, after, all_zero, State, most_due}
@@ -55,6 +55,24 @@ length-bindings (a ∷ []) n e = absurd (omega arith)
 length-bindings (a ∷ x ∷ []) n e = absurd (omega arith)
 length-bindings (a ∷ x ∷ y ∷ w) zero e = absurd (omega arith)
 length-bindings (a ∷ x ∷ y ∷ w) (suc n) e = ap suc (length-bindings w n (omega arith))
+
+-- the first of the bindings that words hold, and the words behind it, as the walk over them leaves these
+pub bindings_short : (w : List ℕ) → length w < 3 → bindings w ≡ []
+unfolding bindings
+bindings_short [] h = refl
+bindings_short (a ∷ []) h = refl
+bindings_short (a ∷ x ∷ []) h = refl
+bindings_short (a ∷ x ∷ y ∷ w) h = absurd (omega arith)
+
+pub bindings_next : (w : List ℕ) → 3 ≤ length w
+    → bindings w ≡ record { activity = get_or w 0 0; input = get_or w 1 0; output = get_or w 2 0 } ∷ bindings (take (length w - 3) (drop 3 w))
+unfolding bindings
+bindings_next [] h = absurd (omega arith)
+bindings_next (a ∷ []) h = absurd (omega arith)
+bindings_next (a ∷ x ∷ []) h = absurd (omega arith)
+bindings_next (a ∷ x ∷ y ∷ w) h =
+    let n : suc (suc (suc (length w))) - 3 ≡ length w = omega arith in
+    rw n (ap (λ (v : List ℕ). record { activity = a; input = x; output = y } ∷ bindings v) (sym (take-length w)))
 
 -- the binding after i others stands in the words from 3 * i on
 pub record HeldAt (w : List ℕ) (i : ℕ) : Type 0 where

@@ -1,21 +1,23 @@
 -- Laws of the state and its step: what each part of a step does to every count, that undoing gives the state back, how far
 -- the counts can grow, and the test that all are zero. The layers above use these and no definition's text. Assumes nothing.
 use Prim.Native.Nat.{ℕ, zero, suc, ◌+◌, ◌-◌, ◌*◌, ◌≤◌, ◌<◌}
-use mathlib.Core.Path.{◌≡◌, refl, sym, ap, ap₂, ◌∙◌}
+use mathlib.Core.Path.{◌≡◌, refl, sym, ap, ◌∙◌}
 use mathlib.Core.Logic.{⊎_elim}
-use mathlib.Core.Bool.{Bool, true, ◌&&◌, and_assoc}
+use mathlib.Core.Bool.{Bool, true, false, ◌&&◌, and_assoc, and-true}
 use mathlib.Core.List.{List, [], ◌∷◌}
 use native.Mathlib.Nat.{eq-zero-or-pos}
-use native.Mathlib.Numerals.{add-one}
 use native.Mathlib.Omega.{arith}
 use borrow.Author.Tests.{eq-eqb, eqb-true}
 use lib.Bits.{bit_or, or_add_and, and_le_l, and_le_r}
 use lib.Dec.{eqb, lit<}
-use lib.ListN.{length, get_or, take, drop, replicate, get_or-replicate, get_or-eq_default}
+use lib.ListN.{length, get_or, take, drop, replicate, length-take, get_or-replicate, get_or-eq_default}
 use lib.Seq.{ext_get_or, get_or-take, get_or-drop, drop-drop}
+use Rattle.std.proofs.Common.{fold}
+use Rattle.std.specs.Bool.{MatchBool}
+use Rattle.std.specs.List.{AllWithin, HoldsAt, range_with_len}
 use Rattle.obligations.specs.Sets.{single}
 use Rattle.obligations.specs.State.{nothing, inputs, outputs, all_due, lowered, raised, possible, taken, added, after, covers, unadded, untaken, before, all_zero, State}
-use Rattle.obligations.proofs.BoolLaws.{and_left, and_right, and_both, same_test}
+use Rattle.obligations.proofs.BoolLaws.{and_left, and_right, and_both, same_test, true_or_false, false-not-true}
 use Rattle.obligations.proofs.SetLaws.{lt_or_le}
 use Rattle.obligations.proofs.PlaceLaws.{places_none, places-single, occ, lowered-at, raised_at_lem, length-lowered, length-raised, places_once, places_found, due_at, due_all}
 
@@ -177,29 +179,11 @@ zero_or a b =
     and_both (eq-eqb a 0 (omega (arith, or_add_and a b, and_le_l a b, and_le_r a b))) (eq-eqb b 0 (omega (arith, or_add_and a b, and_le_l a b, and_le_r a b))))
     (λ e. eq-eqb (bit_or a b) 0 (omega (arith, or_add_and a b, eqb-true a 0 (and_left (eqb a 0) (eqb b 0) e), eqb-true b 0 (and_right (eqb a 0) (eqb b 0) e))))
 
-zero-drop : (d : List ℕ) (i : ℕ) → all_zero (drop i d) ≡ eqb (get_or d i 0) 0 && all_zero (drop (suc i) d)
+-- what all counts have together, and have with what was seen before, is zero exactly if each is
+pub zero_fold : (s : ℕ) (d : List ℕ) → eqb (fold bit_or s d) 0 ≡ eqb s 0 && all_zero d
 unfolding all_zero
-zero-drop [] zero = refl
-zero-drop [] (suc i) = refl
-zero-drop (x ∷ xs) zero = refl
-zero-drop (x ∷ xs) (suc i) = zero-drop xs i
-
--- one count more seen
-zero_seen : (d : List ℕ) (i s : ℕ) → eqb s 0 && all_zero (drop i d) ≡ eqb (bit_or s (get_or d i 0)) 0 && all_zero (drop (i + 1) d)
-zero_seen d i s =
-    ap (λ (t : Bool). eqb s 0 && t) (zero-drop d i) ∙ sym (and_assoc (eqb s 0) (eqb (get_or d i 0) 0) (all_zero (drop (suc i) d)))
-    ∙ ap₂ (λ (t : Bool) (k : ℕ). t && all_zero (drop k d)) (sym (zero_or s (get_or d i 0))) (sym (add-one i))
-
--- one count more seen of those from place `from` to before place `to`
-pub zero_seen_between : (d : List ℕ) (from to i s : ℕ) → from ≤ i → i < to
-    → eqb s 0 && all_zero (drop (i - from) (take (to - from) (drop from d))) ≡ eqb (bit_or s (get_or d i 0)) 0 && all_zero (drop (i + 1 - from) (take (to - from) (drop from d)))
-zero_seen_between d from to i s h l =
-    let part : List ℕ = take (to - from) (drop from d) in
-    let inside : i - from < to - from = omega arith in
-    let place : from + (i - from) ≡ i = omega arith in
-    let same : get_or part (i - from) 0 ≡ get_or d i 0 = get_or-take (to - from) (drop from d) (i - from) 0 inside ∙ get_or-drop from d (i - from) 0 ∙ ap (λ (k : ℕ). get_or d k 0) place in
-    let next : i - from + 1 ≡ i + 1 - from = omega arith in
-    zero_seen part (i - from) s ∙ ap₂ (λ (n k : ℕ). eqb (bit_or s n) 0 && all_zero (drop k part)) same next
+zero_fold s [] = sym (and-true (eqb s 0))
+zero_fold s (n ∷ ns) = zero_fold (bit_or s n) ns ∙ ap (λ (t : Bool). t && all_zero ns) (zero_or s n) ∙ and_assoc (eqb s 0) (eqb n 0) (all_zero ns)
 
 -- those from a place on are zero exactly if those to before a later place are and those from there on
 zero-split : (d : List ℕ) (n : ℕ) → all_zero d ≡ all_zero (take n d) && all_zero (drop n d)
@@ -228,3 +212,24 @@ at_zero (x ∷ xs) h = and_both (eq-eqb x 0 (h 0 (omega arith))) (at_zero xs (λ
 pub nothing-zero : all_zero nothing ≡ true
 unfolding all_zero
 nothing-zero = refl
+
+-- all counts are zero exactly if those of each of the four parts are
+abbrev pub zero_in : List ℕ → ℕ → Bool
+zero_in d k = all_zero (take (256 * (k + 1) - 256 * k) (drop (256 * k) d))
+
+pub zero-part : (d : List ℕ) (k : ℕ) → all_zero d ≡ true → zero_in d k ≡ true
+zero-part d k e =
+    at_zero (take (256 * (k + 1) - 256 * k) (drop (256 * k) d)) (λ j h.
+    let l : j < 256 * (k + 1) - 256 * k = omega (arith, length-take (256 * (k + 1) - 256 * k) (drop (256 * k) d)) in
+    get_or-take (256 * (k + 1) - 256 * k) (drop (256 * k) d) j 0 l ∙ get_or-drop (256 * k) d j 0 ∙ zero-at d e (256 * k + j))
+
+pub zero_parts : (d : List ℕ) (r : Bool) → length d ≡ 1024
+    → MatchBool r (AllWithin (λ k. true ≡ zero_in d k) (range_with_len 0 4) 0 4) ((k : ℕ) × (k < 4) × HoldsAt (λ k. false ≡ zero_in d k) (range_with_len 0 4) k)
+    → r ≡ all_zero d
+zero_parts d true l each =
+    sym (zero_between d 0 256 (omega arith) ∙ and_both (sym (each 0 0 (omega arith) (omega arith))) (
+    zero_between d 256 512 (omega arith) ∙ and_both (sym (each 1 0 (omega arith) (omega arith))) (
+    zero_between d 512 768 (omega arith) ∙ and_both (sym (each 2 0 (omega arith) (omega arith))) (
+    zero_between d 768 1024 (omega arith) ∙ and_both (sym (each 3 0 (omega arith) (omega arith))) (zero-end d 1024 (omega arith))))))
+zero_parts d false l some =
+    ⊎_elim (λ z. absurd (false-not-true (sym (some.2 0)) (zero-part d (get_or (range_with_len 0 4) some.0 0) z))) (λ f. sym f) (true_or_false (all_zero d))

@@ -11,7 +11,7 @@ use Rattle.obligations.specs.Sets.{size}
 use Rattle.obligations.specs.State.{possible, after, total, step_says, step_gives, State, most_due}
 use Rattle.obligations.specs.Sequence.{Binding, Possible}
 use Rattle.obligations.specs.Statements.{StepSaid}
-use Rattle.obligations.specs.declared.state.Stepped.TheVariants.{Total, Impossible}
+use Rattle.std.proofs.Common.{Some, None}
 use Rattle.obligations.proofs.BoolLaws.{true_or_false, false-not-true}
 use Rattle.obligations.proofs.MemberLaws.{size_le}
 use Rattle.obligations.proofs.CountLaws.{possible-count, count-possible}
@@ -41,11 +41,11 @@ module _ (d : List ℕ) (a x : ℕ) (k : State most_due d) (h : a < 32) (t : pos
 -- ---- by whether the binding is possible
 
 module _ (d : List ℕ) (a x y : ℕ) where
-  pub says_possible : possible d a x ≡ true → step_says d a x y ≡ Total (total (after d a x y))
+  pub says_possible : possible d a x ≡ true → step_says d a x y ≡ Some (total (after d a x y))
   unfolding step_says
   says_possible t = rw t
 
-  pub says_not : possible d a x ≡ false → step_says d a x y ≡ Impossible
+  pub says_not : possible d a x ≡ false → step_says d a x y ≡ None
   unfolding step_says
   says_not f = rw f
 
@@ -58,19 +58,19 @@ module _ (d : List ℕ) (a x y : ℕ) where
   gives_not f = rw f
 
   -- what a report shows
-  pub total_said : (k : ℕ) → step_says d a x y ≡ Total k → (possible d a x ≡ true) × (total (after d a x y) ≡ k)
+  pub total_said : (k : ℕ) → step_says d a x y ≡ Some k → (possible d a x ≡ true) × (total (after d a x y) ≡ k)
   unfolding step_says
   total_said k e = go (possible d a x) (total (after d a x y)) e
     where
-      go : (b : Bool) (l : ℕ) → cond b (Total l) Impossible ≡ Total k → (b ≡ true) × (l ≡ k)
+      go : (b : Bool) (l : ℕ) → cond b (Some l) None ≡ Some k → (b ≡ true) × (l ≡ k)
       go true l q = (refl, cc)
       go false l q = absurd (let z : ◌≡◌ {A = ℕ} 0 1 = cc in omega arith)
 
-  pub impossible_said : step_says d a x y ≡ Impossible → possible d a x ≡ false
+  pub impossible_said : step_says d a x y ≡ None → possible d a x ≡ false
   unfolding step_says
   impossible_said e = go (possible d a x) (total (after d a x y)) e
     where
-      go : (b : Bool) (l : ℕ) → cond b (Total l) Impossible ≡ Impossible → b ≡ false
+      go : (b : Bool) (l : ℕ) → cond b (Some l) None ≡ None → b ≡ false
       go true l q = absurd (let z : ◌≡◌ {A = ℕ} 0 1 = cc in omega arith)
       go false l q = refl
 
@@ -84,7 +84,7 @@ step_said d b =
     record {
       total_exactly = λ k. (
         (λ e. let s = total_said d a x y k e in (possible-count d a x s.0, s.1)),
-        (λ w. says_possible d a x y (count-possible d a x w.0) ∙ ap Total w.1),
+        (λ w. says_possible d a x y (count-possible d a x w.0) ∙ ap Some w.1),
       );
       impossible_exactly = (
         (λ e w. false-not-true (impossible_said d a x y e) (count-possible d a x w)),

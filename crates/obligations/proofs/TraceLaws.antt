@@ -1,5 +1,5 @@
 -- The tests on the activities of a trace or a sequence, said of each position. Assumes nothing.
-use Prim.Native.Nat.{ℕ, ◌+◌, ◌*◌, ◌-◌, ◌≤◌, ◌<◌}
+use Prim.Native.Nat.{ℕ, suc, ◌+◌, ◌*◌, ◌-◌, ◌≤◌, ◌<◌}
 use mathlib.Core.Path.{◌≡◌, refl, sym, ap, ap₂, ◌∙◌}
 use mathlib.Core.Logic.{◌↔◌, ◌⊎◌, inl, inr, ⊎_elim}
 use mathlib.Core.Bool.{Bool, true, false, ◌&&◌, beq, and-false}
@@ -67,10 +67,10 @@ pub no_activity_tests : (n : ℕ) (activity_at : ℕ → ℕ) → first_no_activ
 unfolding first_no_activity
 no_activity_tests n activity_at = refl
 
-pub no_activity-at : (n : ℕ) (activity_at : ℕ → ℕ) (i : ℕ) → i < n → AllPass i (λ j. ltb (activity_at j) 32) → 31 < activity_at i → first_no_activity n activity_at ≡ i + 1
+pub no_activity-at : (n : ℕ) (activity_at : ℕ → ℕ) (i : ℕ) → i < n → AllPass i (λ j. ltb (activity_at j) 32) → 31 < activity_at i → first_no_activity n activity_at ≡ suc i
 unfolding first_no_activity
 no_activity-at n activity_at i h all a =
-    fails_first n (λ j. ltb (activity_at j) 32) i (record { inside = h; before = all; fails = le-ltb (activity_at i) 32 a }) ∙ sym (add-one i)
+    fails_first n (λ j. ltb (activity_at j) 32) i (record { inside = h; before = all; fails = le-ltb (activity_at i) 32 a })
 
 pub activities_all : (n : ℕ) (activity_at : ℕ → ℕ) → AllPass n (λ j. ltb (activity_at j) 32) → first_no_activity n activity_at ≡ 0
 unfolding first_no_activity

@@ -1,16 +1,11 @@
 -- Sequences of bindings (01, "Obligations and the step"; 000, Definitions 3 and 7).
 use Rattle.std.specs.Prelude.{ℕ, ◌+◌, ◌≤◌, ◌<◌, ◌≡◌, Bool, true, ◌&&◌, List, [], ◌∷◌, ◌↔◌, get_or, take, length}
+pub use Rattle.obligations.specs.declared.sequence.Binding.{Binding}
 use Rattle.obligations.specs.Limits.{activities}
 use Rattle.obligations.specs.Tests.{first_failing}
 use Rattle.obligations.specs.Sets.{member}
 use Rattle.obligations.specs.Trace.{Shaped}
 use Rattle.obligations.specs.State.{count, nothing, possible, after, all_zero}
-
--- a binding (a, X, Y)
-pub record Binding : Type 0 where
-  pub activity : ℕ
-  pub input : ℕ
-  pub output : ℕ
 
 -- the bindings that words hold, three words a position; one or two words left over hold none
 unfoldable pub bindings : List ℕ → List Binding

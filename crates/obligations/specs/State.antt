@@ -1,9 +1,7 @@
 -- The state of pending obligations and the step of a binding (01, "Obligations and the step"; 02, (i)).
-use Rattle.std.specs.Prelude.{ℕ, ◌+◌, ◌-◌, ◌*◌, ◌≤◌, ◌≡◌, Bool, true, cond, ◌&&◌, List, [], ◌∷◌, map, leb, eqb, get_or, set, length, replicate}
+use Rattle.std.specs.Prelude.{ℕ, ◌+◌, ◌-◌, ◌*◌, ◌≤◌, ◌≡◌, Bool, true, cond, ◌&&◌, List, [], ◌∷◌, map, leb, eqb, get_or, set, length, replicate, Option, Some, None}
 use Rattle.obligations.specs.Limits.{activities, pairs}
 use Rattle.obligations.specs.Sets.{members}
-use Rattle.obligations.specs.declared.state.Stepped.{Stepped}
-use Rattle.obligations.specs.declared.state.Stepped.TheVariants.{Total, Impossible}
 
 -- how often q is still due because of p; a state is the list of these counts, the 32 of each q together
 unfoldable pub count : List ℕ → ℕ → ℕ → ℕ
@@ -80,10 +78,9 @@ unfoldable pub total : List ℕ → ℕ
 total [] = 0
 total (n ∷ ns) = n + total ns
 
--- what the step of the binding (a, x, y) reports: the total of all counts after it (02, (i)), or that the binding isn't possible;
--- then nothing is said of a total
-unfoldable pub step_says : List ℕ → ℕ → ℕ → ℕ → Stepped
-step_says d a x y = cond (possible d a x) (Total (total (after d a x y))) Impossible
+-- what the step of the binding (a, x, y) reports: the total of all counts after it, or nothing if the binding isn't possible
+unfoldable pub step_says : List ℕ → ℕ → ℕ → ℕ → Option ℕ
+step_says d a x y = cond (possible d a x) (Some (total (after d a x y))) None
 
 -- the state that it leaves: the one after a possible binding, the same one after any other
 unfoldable pub step_gives : List ℕ → ℕ → ℕ → ℕ → List ℕ

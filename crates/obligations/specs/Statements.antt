@@ -1,12 +1,11 @@
 -- What is proved of the definitions: the step agrees with 000's ψ at every pair, and the tests with their sentences.
 -- The proofs are in proofs/Theorems.antt.
-use Rattle.std.specs.Prelude.{ℕ, suc, ◌+◌, ◌-◌, ◌*◌, ◌≤◌, ◌<◌, ◌≡◌, true, ◌&&◌, ◌↔◌, eqb, length, take}
+use Rattle.std.specs.Prelude.{ℕ, suc, ◌+◌, ◌-◌, ◌*◌, ◌≤◌, ◌<◌, ◌≡◌, true, ◌&&◌, ◌↔◌, eqb, length, take, Some, None}
 use mathlib.Core.List.{List, Memᴰ}
 use Rattle.obligations.specs.Limits.{activities, pairs, positions}
 use Rattle.obligations.specs.Tests.{indicator, number}
 use Rattle.obligations.specs.Sets.{member, members, size}
 use Rattle.obligations.specs.State.{count, nothing, possible, after, before, all_zero, total, step_says, step_gives, State, most_due}
-use Rattle.obligations.specs.declared.state.Stepped.TheVariants.{Total, Impossible}
 use Rattle.obligations.specs.Trace.{shaped, Shaped}
 use Rattle.obligations.specs.Sequence.{Binding, bindings, words, at, ψ, Possible, NothingLeft, first_impossible, completes}
 
@@ -36,8 +35,8 @@ TotalZero = (d : List ℕ) → (total d ≡ 0) ↔ (all_zero d ≡ true)
 -- what a step reports: the total of all counts after it exactly if the binding is possible, and else that it isn't, with the
 -- state as it was
 pub record StepSaid (d : List ℕ) (b : Binding) : Type 0 where
-  pub total_exactly : (k : ℕ) → (step_says d b.activity b.input b.output ≡ Total k) ↔ (Possible d b × (total (after d b.activity b.input b.output) ≡ k))
-  pub impossible_exactly : (step_says d b.activity b.input b.output ≡ Impossible) ↔ (Possible d b → ⊥)
+  pub total_exactly : (k : ℕ) → (step_says d b.activity b.input b.output ≡ Some k) ↔ (Possible d b × (total (after d b.activity b.input b.output) ≡ k))
+  pub impossible_exactly : (step_says d b.activity b.input b.output ≡ None) ↔ (Possible d b → ⊥)
   pub changed_if : Possible d b → step_gives d b.activity b.input b.output ≡ after d b.activity b.input b.output
   pub same_if_not : (Possible d b → ⊥) → step_gives d b.activity b.input b.output ≡ d
 

@@ -1,5 +1,5 @@
 -- Tests over the numbers below a limit: how many pass, and the first that fails.
-use Rattle.std.specs.Prelude.{ℕ, zero, suc, ◌+◌, Bool, true, false, cond}
+use Rattle.std.specs.Prelude.{ℕ, zero, suc, ◌+◌, Bool, true, false, cond, Option, Some, None}
 
 -- 1 if the test passes, else 0
 abbrev pub indicator : Bool → ℕ
@@ -19,3 +19,8 @@ first_from k (suc n) test = let rest = first_from (suc k) n test in cond (test k
 -- the same with none before: the test is given how many positions stand before the one tested
 unfoldable pub first_failing : ℕ → (ℕ → Bool) → ℕ
 first_failing n test = first_from 0 n test
+
+-- a position counted from 1, as an answer: 0 stands for none
+unfoldable pub position_of : ℕ → Option ℕ
+position_of zero = None
+position_of (suc i) = Some (suc i)

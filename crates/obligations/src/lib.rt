@@ -4,6 +4,7 @@
 
 #![tactic(auto)]
 
+pub mod sequence;
 pub mod sets;
 pub mod state;
 pub mod trace;

@@ -2,7 +2,8 @@
 // no activity and is in no set.
 
 ghost use Rattle.std.specs.Prelude.{◌≡◌};
-ghost use Rattle.obligations.specs.Sets.{member, single, union, minus, subset, size};
+ghost use Rattle.std.specs.Iterator.{YieldsFirst, item_count};
+ghost use Rattle.obligations.specs.Sets.{member, members, single, union, minus, subset, size};
 
 // The set of k alone.
 pub fn single(k: u32) -> u32
@@ -58,4 +59,34 @@ pub fn size(set: u32) -> u32
     ensures { result ≡ size set }
 {
     u32::count_ones(set)
+}
+
+// The members of a set, in ascending order.
+pub fn members(set: u32) -> MemberIter
+    ensures { result.rest ≡ set }
+{
+    MemberIter { rest: set }
+}
+
+// A walk over a set's members: those that are left. The next turn does not wait for the member's number.
+#[derive(Clone, Copy)]
+pub struct MemberIter {
+    rest: u32,
+}
+
+impl Iterator for MemberIter {
+    type Item = u32;
+
+    ghost next_gives = { YieldsFirst (λ s. members s.rest) };
+
+    ghost remaining = { item_count (λ s. members s.rest) };
+
+    fn next(&mut self) -> Option<u32> {
+        if self.rest == 0 {
+            return None;
+        }
+        let lowest = self.rest.trailing_zeros();
+        self.rest &= self.rest - 1;
+        Some(lowest)
+    }
 }

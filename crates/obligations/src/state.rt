@@ -1,176 +1,184 @@
-// The state of pending obligations: a count for each pair (p, q), how often q is still due because of p, in an array that
-// the caller lends and that is changed in place. The counts of one q stand together, at q * 32 + p.
+// The state of pending obligations: a count for each pair (p, q), how often q is still due because of p. The counts of one q
+// stand together, at q * 32 + p. A caller makes one state, and the steps change it in place.
 //
 // These functions are called by the layers above and by nobody else. Their `requires` are those that a caller has at
 // hand: the activity is one, no count is so high that a byte couldn't hold one more, since a count is at most the number of
 // positions so far, and the total of counts is what the step before reported.
 
-ghost use Rattle.std.specs.Prelude.{◌≡◌, true, ◌≤◌, ◌<◌, ◌+◌, ◌-◌, ◌*◌, length, take, drop};
+ghost use Rattle.std.specs.Prelude.{◌≡◌, true, List, ℕ, ◌≤◌, ◌<◌, ◌+◌, ◌-◌, ◌*◌, length};
 ghost use Rattle.obligations.specs.Limits.{activities, pairs};
-ghost use Rattle.obligations.specs.State.{places_of, all_due, lowered, raised, possible, taken, added, covers, unadded, untaken, before, all_zero, total, State, most_due, step_says, step_gives};
+ghost use Rattle.obligations.specs.State.{nothing, places_of, all_due, lowered, raised, possible, taken, added, covers, unadded, untaken, before, all_zero, total, State, most_due, step_says, step_gives};
 
-use crate::sets::size;
+use crate::sequence::Binding;
+use crate::sets::{members, size};
 use crate::{ACTIVITIES, PAIRS};
+use std::marker::Model;
 
 // The test for an all-zero state goes by parts of the counts: how many there are, and how long each is.
 const PARTS: usize = 4;
 
 const PART: usize = PAIRS / PARTS;
 
-// What a step reports.
-#[derive(Clone, Copy)]
-pub enum Stepped {
-    // The total of counts after it.
-    Total(u32),
-    // The binding isn't possible, and nothing has changed.
-    Impossible,
+// What is due: the counts of all pairs.
+#[derive(Drop)]
+pub struct Due {
+    counts: [u8; PAIRS],
 }
 
-// Whether the binding of a with the input set x is possible: every (p, a) with p in x has a count of at least 1.
-pub fn is_possible(due: &[u8; PAIRS], a: u32, x: u32) -> bool
-    requires { a < activities }
-    ensures { result ≡ possible due.now a x }
-{
-    all_due(due, a * ACTIVITIES, 1, x)
+// A contract sees a state as the list of its counts.
+impl Model for Due {
+    ghost Value = { List ℕ };
+
+    ghost view = { λ s. s.counts };
+
+    ghost invariant = { λ s. length s.counts ≡ pairs };
 }
 
-// Takes one from each (p, a) with p in x.
-pub fn take(due: &mut [u8; PAIRS], a: u32, x: u32)
-    requires a_lt_activities { a < activities }
-    requires x_value { possible due.old a x ≡ true }
-    ensures { due.new ≡ taken due.old a x }
-{
-    lower(due, a * ACTIVITIES, 1, x);
-}
-
-// Adds one to each (a, q) with q in y.
-pub fn add(due: &mut [u8; PAIRS], a: u32, y: u32)
-    requires a_lt_activities { a < activities }
-    requires state { State most_due due.old }
-    ensures { due.new ≡ added due.old a y }
-{
-    raise(due, a, ACTIVITIES, y);
-}
-
-// Undoes `take`.
-pub fn undo_take(due: &mut [u8; PAIRS], a: u32, x: u32)
-    requires a_lt_activities { a < activities }
-    requires state { State most_due due.old }
-    ensures { due.new ≡ untaken due.old a x }
-{
-    raise(due, a * ACTIVITIES, 1, x);
-}
-
-// Undoes `add`.
-pub fn undo_add(due: &mut [u8; PAIRS], a: u32, y: u32)
-    requires a_lt_activities { a < activities }
-    requires y_value { covers due.old a y ≡ true }
-    ensures { due.new ≡ unadded due.old a y }
-{
-    lower(due, a, ACTIVITIES, y);
-}
-
-// Takes the step of the binding (a, x, y) and reports the total of counts after it, if the binding is possible; else changes
-// nothing and says so. What y adds can't serve x of the same step: x is tested and taken first. The total is carried, not
-// summed: `pending` is the one before the step.
-pub fn step(due: &mut [u8; PAIRS], pending: u32, a: u32, x: u32, y: u32) -> Stepped
-    requires a_lt_activities { a < activities }
-    requires state { State most_due due.old }
-    requires pending_value { pending ≡ total due.old }
-    ensures { (result ≡ step_says due.old a x y) × (due.new ≡ step_gives due.old a x y) }
-{
-    if !is_possible(due, a, x) {
-        return Stepped::Impossible;
+impl Due {
+    // The state in which nothing is due.
+    pub fn new() -> Due
+        ensures { result ≡ nothing }
+    {
+        Due { counts: [0; PAIRS] }
     }
-    take(due, a, x);
-    add(due, a, y);
-    Stepped::Total(pending - size(x) + size(y))
-}
 
-// Brings back the state before a possible step of the binding (a, x, y).
-pub fn undo(due: &mut [u8; PAIRS], a: u32, x: u32, y: u32)
-    requires a_lt_activities { a < activities }
-    requires state { State most_due due.old }
-    requires y_value { covers due.old a y ≡ true }
-    ensures { due.new ≡ before due.old a x y }
-{
-    undo_add(due, a, y);
-    undo_take(due, a, x);
-}
+    // Whether the binding of a with the input set x is possible: every (p, a) with p in x has a count of at least 1.
+    pub fn is_possible(&self, a: u32, x: u32) -> bool
+        requires { a < activities }
+        ensures { result ≡ possible self.now a x }
+    {
+        all_due(&self.counts, a * ACTIVITIES, 1, x)
+    }
 
-// Whether every count is zero. Most states that are tested have something due, and mostly in the first part already.
-pub fn is_zero(due: &[u8; PAIRS]) -> bool
-    requires { length due.now ≡ pairs }
-    ensures { result ≡ all_zero due.now }
-{
-    let mut k: usize = 0;
-    while k < PARTS {
-        if !is_zero_between(due, PART * k, PART * (k + 1)) {
-            return false;
+    // Takes one from each (p, a) with p in x.
+    pub fn take(&mut self, a: u32, x: u32)
+        requires is_activity { a < activities }
+        requires is_possible { possible self.old a x ≡ true }
+        ensures { self.new ≡ taken self.old a x }
+    {
+        lower(&mut self.counts, a * ACTIVITIES, 1, x);
+    }
+
+    // Adds one to each (a, q) with q in y.
+    pub fn add(&mut self, a: u32, y: u32)
+        requires is_activity { a < activities }
+        requires has_room { State most_due self.old }
+        ensures { self.new ≡ added self.old a y }
+    {
+        raise(&mut self.counts, a, ACTIVITIES, y);
+    }
+
+    // Undoes `take`.
+    pub fn undo_take(&mut self, a: u32, x: u32)
+        requires is_activity { a < activities }
+        requires has_room { State most_due self.old }
+        ensures { self.new ≡ untaken self.old a x }
+    {
+        raise(&mut self.counts, a * ACTIVITIES, 1, x);
+    }
+
+    // Undoes `add`.
+    pub fn undo_add(&mut self, a: u32, y: u32)
+        requires is_activity { a < activities }
+        requires is_covered { covers self.old a y ≡ true }
+        ensures { self.new ≡ unadded self.old a y }
+    {
+        lower(&mut self.counts, a, ACTIVITIES, y);
+    }
+
+    // Takes the step of a binding and reports the total of counts after it, if the binding is possible; else changes nothing.
+    // What its output set adds can't serve its own input set: that is tested and taken first. The total is carried, not summed:
+    // `pending` is the one before the step.
+    pub fn step(&mut self, pending: u32, binding: Binding) -> Option<u32>
+        requires is_activity { binding.activity < activities }
+        requires has_room { State most_due self.old }
+        requires is_total { pending ≡ total self.old }
+        ensures reports { result ≡ step_says self.old binding.activity binding.input binding.output }
+        ensures leaves { self.new ≡ step_gives self.old binding.activity binding.input binding.output }
+    {
+        let Binding {
+            activity: a,
+            input: x,
+            output: y,
+        } = binding;
+        if !self.is_possible(a, x) {
+            return None;
         }
-        k += 1;
+        self.take(a, x);
+        self.add(a, y);
+        Some(pending - size(x) + size(y))
     }
-    true
+
+    // Brings back the state before a possible step of a binding.
+    pub fn undo(&mut self, binding: Binding)
+        requires is_activity { binding.activity < activities }
+        requires has_room { State most_due self.old }
+        requires is_covered { covers self.old binding.activity binding.output ≡ true }
+        ensures { self.new ≡ before self.old binding.activity binding.input binding.output }
+    {
+        self.undo_add(binding.activity, binding.output);
+        self.undo_take(binding.activity, binding.input);
+    }
+
+    // Whether every count is zero. Most states that are tested have something due, and mostly in the first part already.
+    pub fn is_zero(&self) -> bool
+        ensures { result ≡ all_zero self.now }
+    {
+        let counts = &self.counts;
+        (0..PARTS).all(|k| is_zero_part(&counts[PART * k..PART * (k + 1)]))
+    }
 }
 
-// Whether every count from place `from` to before place `to` is zero. No way out of the loop, so that it is compiled to
-// vector operations.
-fn is_zero_between(due: &[u8; PAIRS], from: usize, to: usize) -> bool
-    requires { (from ≤ to) × (to ≤ pairs) × (length due.now ≡ pairs) }
-    ensures { result ≡ all_zero (take (to - from) (drop from due.now)) }
+// Whether every count of a part is zero. No way out of the fold, so that it is compiled to vector operations.
+fn is_zero_part(counts: &[u8]) -> bool
+    ensures { result ≡ all_zero counts.now }
 {
-    let mut seen: u8 = 0;
-    let mut i = from;
-    while i < to {
-        seen |= due[i];
-        i += 1;
-    }
-    seen == 0
+    counts.iter().fold(0, |seen, n| seen | *n) == 0
 }
 
-// Whether each place base + k * stride, for k in the set, has a count of at least 1.
-fn all_due(due: &[u8; PAIRS], base: u32, stride: u32, set: u32) -> bool
+// The place of the member k: base + k * stride.
+fn place(base: u32, stride: u32, k: u32) -> usize
+    requires inside { base + 31 * stride < pairs }
+    requires is_activity { k < activities }
+    ensures value { result ≡ base + k * stride }
+    ensures in_range { result < pairs }
+{
+    (base + k * stride) as usize
+}
+
+// Whether each place of a member of the set has a count of at least 1.
+fn all_due(counts: &[u8; PAIRS], base: u32, stride: u32, set: u32) -> bool
     requires { base + 31 * stride < pairs }
-    ensures { result ≡ all_due due.now (places_of base stride set) }
+    ensures { result ≡ all_due counts.now (places_of base stride set) }
 {
-    let mut rest = set;
-    while rest != 0 {
-        let k = u32::trailing_zeros(rest);
-        let i = (base + k * stride) as usize;
-        if due[i] == 0 {
+    for k in members(set) {
+        if counts[place(base, stride, k)] == 0 {
             return false;
         }
-        rest &= rest - 1;
     }
     true
 }
 
-// Takes one from each place base + k * stride, for k in the set.
-fn lower(due: &mut [u8; PAIRS], base: u32, stride: u32, set: u32)
-    requires stride_bound { (base + 31 * stride < pairs) × (0 < stride) }
-    requires set_value { all_due due.old (places_of base stride set) ≡ true }
-    ensures { due.new ≡ lowered due.old (places_of base stride set) }
+// Takes one from each place of a member of the set.
+fn lower(counts: &mut [u8; PAIRS], base: u32, stride: u32, set: u32)
+    requires inside { base + 31 * stride < pairs }
+    requires apart { 0 < stride }
+    requires due { all_due counts.old (places_of base stride set) ≡ true }
+    ensures { counts.new ≡ lowered counts.old (places_of base stride set) }
 {
-    let mut rest = set;
-    while rest != 0 {
-        let k = u32::trailing_zeros(rest);
-        let i = (base + k * stride) as usize;
-        due[i] -= 1;
-        rest &= rest - 1;
+    for k in members(set) {
+        counts[place(base, stride, k)] -= 1;
     }
 }
 
-// Adds one to each place base + k * stride, for k in the set.
-fn raise(due: &mut [u8; PAIRS], base: u32, stride: u32, set: u32)
-    requires stride_bound { (base + 31 * stride < pairs) × (0 < stride) }
-    requires state { State most_due due.old }
-    ensures { due.new ≡ raised due.old (places_of base stride set) }
+// Adds one to each place of a member of the set.
+fn raise(counts: &mut [u8; PAIRS], base: u32, stride: u32, set: u32)
+    requires inside { base + 31 * stride < pairs }
+    requires apart { 0 < stride }
+    requires has_room { State most_due counts.old }
+    ensures { counts.new ≡ raised counts.old (places_of base stride set) }
 {
-    let mut rest = set;
-    while rest != 0 {
-        let k = u32::trailing_zeros(rest);
-        let i = (base + k * stride) as usize;
-        due[i] += 1;
-        rest &= rest - 1;
+    for k in members(set) {
+        counts[place(base, stride, k)] += 1;
     }
 }

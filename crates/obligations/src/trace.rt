@@ -2,25 +2,22 @@
 // a trace and 3 in a sequence.
 
 ghost use Rattle.std.specs.Prelude.{◌≡◌, ◌*◌, ◌^◌, ◌<◌, ◌≤◌, length, get_or};
+ghost use Rattle.obligations.specs.Tests.{position_of};
 ghost use Rattle.obligations.specs.Trace.{first_no_activity, shaped};
 
 use crate::ACTIVITIES;
 
-// The first position, counted from 1, with a number above 31, or 0.
-pub fn first_no_activity(words: &[u32], stride: usize, n: usize) -> u32
+// The first position, counted from 1, with a number above 31.
+pub fn first_no_activity(words: &[u32], stride: usize, n: usize) -> Option<u32>
     requires { (0 < stride) × (stride * n ≤ length words.now) × (n < 2 ^ 32) }
-    ensures { result ≡ first_no_activity n (λ i. get_or words.now (stride * i) 0) }
+    ensures { result ≡ position_of (first_no_activity n (λ i. get_or words.now (stride * i) 0)) }
 {
-    let mut i: usize = 0;
-    let mut at: usize = 0;
-    while i < n {
-        if ACTIVITIES <= words[at] {
-            return (i + 1) as u32;
+    for i in 0..n {
+        if ACTIVITIES <= words[stride * i] {
+            return Some((i + 1) as u32);
         }
-        i += 1;
-        at += stride;
     }
-    0
+    None
 }
 
 // Whether there are at least two positions, and start and end stand first, last and nowhere else.
@@ -32,18 +29,14 @@ pub fn is_shaped(words: &[u32], stride: usize, n: usize, start: u32, end: u32) -
         return false;
     }
     let last = n - 1;
-    let mut i: usize = 0;
-    let mut at: usize = 0;
-    while i < n {
-        let a = words[at];
+    for i in 0..n {
+        let a = words[stride * i];
         if (a == start) != (i == 0) {
             return false;
         }
         if (a == end) != (i == last) {
             return false;
         }
-        i += 1;
-        at += stride;
     }
     true
 }

@@ -1,33 +1,22 @@
 -- `all_due` meets its contract. The walk's invariant: all places are due exactly if those of the members left are. Assumes nothing.
-use Prim.Native.Nat.{ℕ}
-use mathlib.Core.Path.{sym, ap, ◌∙◌}
-use native.Mathlib.Omega.{arith}
-use Rattle.obligations.specs.State.{places_of, all_due}
-use Rattle.obligations.proofs.PlaceLaws.{Turn, turn, places_none, due_stop, due_next}
+use Rattle.std.proofs.Common.{sym, ap, ◌∙◌}
+use Rattle.obligations.specs.State.{all_due}
+use Rattle.obligations.proofs.PlaceLaws.{member_first, places_next, places_end, due_stop, due_next}
 use Rattle.obligations.proofs.state.all_due.Goals as goal
-use Rattle.obligations.proofs.state.all_due.Goals.{In-loop-rest}
 
-turn_at : (c : In-loop-rest) → Turn c.args.base c.args.stride c.loop-rest.rest
-turn_at c = turn c.args.base c.args.stride c.loop-rest.rest c.requires c.loop-rest-test.true c.loop-rest.invariant.0
+pub place-requires-clause-is_activity : goal.place-requires-clause-is_activity
+place-requires-clause-is_activity c = member_first _ _ _ c.in-Some.ensures.steps
 
-pub bounds-due-i : goal.bounds-due-i
-bounds-due-i c = (turn_at c.before.before).place
+pub returns-then-counts-place-eq0 : goal.returns-then-counts-place-eq0
+returns-then-counts-place-eq0 c =
+    let w = places_next c.args.base c.args.stride _ _ _ c.in-Some.ensures.steps in
+    sym (c.loop-k.invariant.2 ∙ ap (all_due c.args.counts.now) w ∙ due_stop _ _ _ (rw c.place.ensures.value at c.if-counts-place-eq0.true))
 
-pub returns-then-due-i-eq0 : goal.returns-then-due-i-eq0
-returns-then-due-i-eq0 c =
-    let l = c.loop-rest in
-    let d = c.args.due.now in
-    sym (l.invariant.1 ∙ ap (all_due d) (turn_at c.before.before.before.before).walked ∙ due_stop d _ _ c.if-due-i-eq0.true)
-
-pub loop-rest-preserved : goal.loop-rest-preserved
-loop-rest-preserved c =
-    let l = c.loop-rest in
-    let d = c.args.due.now in
-    let w = turn_at c.before.before.before.before in
-    (omega arith, l.invariant.1 ∙ ap (all_due d) w.walked ∙ due_next d _ _ c.if-due-i-eq0.false)
+pub loop-k-preserved : goal.loop-k-preserved
+loop-k-preserved c =
+    let w = places_next c.args.base c.args.stride _ _ _ c.in-Some.ensures.steps in
+    (tt, tt, c.loop-k.invariant.2 ∙ ap (all_due c.args.counts.now) w ∙ due_next _ _ _ (rw c.place.ensures.value at c.if-counts-place-eq0.false))
 
 pub returns : goal.returns
 unfolding all_due
-returns c =
-    let a = c.args in
-    sym (c.loop-rest.invariant.1 ∙ ap (λ (r : ℕ). all_due a.due.now (places_of a.base a.stride r)) c.loop-rest-test.false ∙ ap (all_due a.due.now) (places_none a.base a.stride))
+returns c = sym (c.loop-k.invariant.2 ∙ ap (all_due c.args.counts.now) (places_end c.args.base c.args.stride _ c.in-None.ensures.steps.0))

@@ -1,10 +1,8 @@
-use Prim.Native.Nat.{◌<◌, ◌^◌}
-use mathlib.Core.Path.{◌≡◌}
+use Rattle.std.proofs.Common.{◌≡◌}
 use Rattle.obligations.specs.State.{places_of, all_due}
 use Rattle.obligations.proofs.state.all_due.Given as goal
 
-abbrev pub invariant-loop-rest : goal.invariant-loop-rest
-invariant-loop-rest l = (l.rest < 2 ^ 32) × (all_due l.due (places_of l.base l.stride l.set) ≡ all_due l.due (places_of l.base l.stride l.rest))
-
-abbrev pub decreases-loop-rest : goal.decreases-loop-rest
-decreases-loop-rest l = l.rest
+abbrev pub invariant-loop-k : goal.invariant-loop-k
+invariant-loop-k l =
+    (goal.iterator-loop-k).can_next l.k-iterator × (goal.iterator-loop-k).is_finite l.k-iterator
+    × (all_due l.counts (places_of l.base l.stride l.set) ≡ all_due l.counts (places_of l.base l.stride l.k-iterator.rest))

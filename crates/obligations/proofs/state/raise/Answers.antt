@@ -1,41 +1,32 @@
 -- `raise` meets its contract. The walk's invariant: raising the places of the members left gives what is to be given, and
 -- their counts have room for it. Assumes nothing.
-use Prim.Native.Nat.{ℕ}
-use mathlib.Core.Path.{refl, sym, ap, ◌∙◌, subst}
-use native.Mathlib.Omega.{arith}
-use Rattle.obligations.specs.State.{places_of, raised}
-use Rattle.obligations.proofs.PlaceLaws.{Turn, turn, places_none, Room, state_room, room_head, room_next}
+use Rattle.std.proofs.Common.{arith, ◌≡◌, refl, rules, sym, ap, subst, ◌∙◌}
+use Rattle.obligations.specs.State.{raised}
+use Rattle.obligations.proofs.PlaceLaws.{Room, state_room, room_head, room_next, member_first, places_next, places_end}
 use Rattle.obligations.proofs.state.raise.Goals as goal
-use Rattle.obligations.proofs.state.raise.Goals.{In-loop-rest}
 
-turn_at : (c : In-loop-rest) → Turn c.args.base c.args.stride c.loop-rest.rest
-turn_at c = turn c.args.base c.args.stride c.loop-rest.rest c.requires.stride_bound.0 c.loop-rest-test.true c.loop-rest.invariant.0
+pub loop-k-init : goal.loop-k-init
+loop-k-init c =
+    let a = c.args in
+    let e : c.into_iter-k-iterator.result.rest ≡ a.set = search rules in
+    rw e (tt, tt, refl, state_room a.base a.stride c.requires.apart a.counts.now a.set c.requires.has_room)
 
-pub loop-rest-init : goal.loop-rest-init
-loop-rest-init c = (c.ranges.set.fits, refl, state_room c.args.base c.args.stride c.requires.stride_bound.1 c.args.due.now c.args.set c.requires.state)
+pub place-requires-clause-is_activity : goal.place-requires-clause-is_activity
+place-requires-clause-is_activity c = member_first _ _ _ c.in-Some.ensures.steps
 
-pub bounds-due-i : goal.bounds-due-i
-bounds-due-i c = (turn_at c.before.before).place
+pub overflow_add-counts : goal.overflow_add-counts
+overflow_add-counts c =
+    let w = places_next c.args.base c.args.stride _ _ _ c.in-Some.ensures.steps in
+    let h = room_head c.loop-k.counts _ _ (subst (Room c.loop-k.counts) w c.loop-k.invariant.3) in
+    rw c.place.ensures.value (omega arith)
 
-pub overflow_add-due : goal.overflow_add-due
-overflow_add-due c =
-    let l = c.loop-rest in
-    let h = room_head l.due _ _ (subst (Room l.due) (turn_at c.before.before).walked l.invariant.2) in
-    omega arith
-
-pub bounds-due-i-in-loop-rest : goal.bounds-due-i-in-loop-rest
-bounds-due-i-in-loop-rest c = (turn_at c.before.before).place
-
-pub loop-rest-preserved : goal.loop-rest-preserved
+pub loop-k-preserved : goal.loop-k-preserved
 unfolding raised
-loop-rest-preserved c =
-    let l = c.loop-rest in
-    let w = turn_at c.before.before in
-    (omega arith, l.invariant.1 ∙ ap (raised l.due) w.walked, room_next l.due _ _ (subst (Room l.due) w.walked l.invariant.2))
+loop-k-preserved c =
+    let l = c.loop-k in
+    let w = places_next c.args.base c.args.stride _ _ _ c.in-Some.ensures.steps in
+    rw c.place.ensures.value (tt, tt, l.invariant.2 ∙ ap (raised l.counts) w, room_next l.counts _ _ (subst (Room l.counts) w l.invariant.3))
 
 pub returns : goal.returns
 unfolding raised
-returns c =
-    let a = c.args in
-    let l = c.loop-rest in
-    sym (l.invariant.1 ∙ ap (λ (r : ℕ). raised l.due (places_of a.base a.stride r)) c.loop-rest-test.false ∙ ap (raised l.due) (places_none a.base a.stride))
+returns c = sym (c.loop-k.invariant.2 ∙ ap (raised c.loop-k.counts) (places_end c.args.base c.args.stride _ c.in-None.ensures.steps.0))
