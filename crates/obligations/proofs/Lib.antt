@@ -14,5 +14,6 @@ pub mod StepLaws
 pub mod PositionLaws
 pub mod TraceLaws
 pub mod SequenceLaws
+pub mod WalkLaws
 pub mod Theorems
 pub mod Examples
