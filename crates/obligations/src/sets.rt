@@ -58,7 +58,7 @@ pub fn is_subset(set: u32, other: u32) -> bool
 pub fn size(set: u32) -> u32
     ensures { result ≡ size set }
 {
-    u32::count_ones(set)
+    set.count_ones()
 }
 
 // The members of a set, in ascending order.
