@@ -1,14 +1,7 @@
 -- Laws of a mask's bits under the machine's operations: each is proved digit by digit, at any width. Assumes nothing.
-use Prim.Native.Nat.{ℕ, zero, suc, ◌-◌, ◌*◌, ◌/◌, ◌%◌, ◌^◌, ◌≤◌, ◌<◌, min, max}
-use mathlib.Core.Path.{◌≡◌, refl, sym, ap, ◌∙◌}
-use mathlib.Core.Logic.{◌⊎◌, inl, inr}
-use native.Mathlib.Nat.{mod-lt, one-mul, pow-suc}
-use native.Mathlib.Numerals.{one-add}
-use native.Mathlib.Omega.{arith}
+use Rattle.std.proofs.Common.{ℕ, zero, suc, ◌-◌, ◌*◌, ◌/◌, ◌%◌, ◌^◌, ◌≤◌, ◌<◌, min, max, ◌≡◌, refl, sym, ap, ◌∙◌, ◌⊎◌, inl, inr, mod-lt, one-mul, pow-suc, one-add, arith, bit_and, bit_or, lit<, shr-shr, shl_exact}
 use lib.Arith.{digits_mod}
-use lib.Bits.{bit_and, bit_or, and_step, or_step, and_shr, or_shr}
-use lib.Dec.{lit<}
-use lib.Pow.{shr-shr, shl_exact}
+use lib.Bits.{and_step, or_step, and_shr, or_shr}
 use Rattle.obligations.specs.Sets.{bit}
 
 pub half_lt : (m n : ℕ) → m < 2 ^ suc n → m / 2 < 2 ^ n

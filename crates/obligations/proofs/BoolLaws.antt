@@ -1,8 +1,5 @@
 -- Laws of tests: what a Boolean equation says, and back. Assumes nothing.
-use mathlib.Core.Path.{◌≡◌, refl, sym, subst}
-use mathlib.Core.Logic.{◌⊎◌, inl, inr}
-use mathlib.Core.Bool.{Bool, true, false, ◌&&◌, ◌||◌}
-use lib.Dec.{T}
+use Rattle.std.proofs.Common.{◌≡◌, refl, sym, subst, ◌⊎◌, inl, inr, Bool, true, false, ◌&&◌, ◌||◌, T}
 
 pub true_or_false : (a : Bool) → (a ≡ true) ⊎ (a ≡ false)
 true_or_false true = inl refl

@@ -1,15 +1,7 @@
 -- The step said of each pair (p, q), as 000's ψ says it, and possible said of each member. The places of a binding's inputs
 -- are one row of the state and those of its outputs one column, so a pair is selected as often as a bit says. Every place of a
 -- state is that of one pair of activities, so that all counts are zero exactly if those of all pairs are. Assumes nothing.
-use Prim.Native.Nat.{ℕ, ◌+◌, ◌-◌, ◌*◌, ◌/◌, ◌%◌, ◌≤◌, ◌<◌}
-use mathlib.Core.Path.{◌≡◌, ap, ap₂, subst, ◌∙◌}
-use mathlib.Core.Logic.{⊎_elim}
-use mathlib.Core.Bool.{true, ◌&&◌}
-use mathlib.Core.List.{List}
-use native.Mathlib.Omega.{arith}
-use borrow.Author.Tests.{eq-eqb, ne_eqb}
-use lib.Dec.{eqb, lit<}
-use lib.ListN.{length, get_or}
+use Rattle.std.proofs.Common.{ℕ, ◌+◌, ◌-◌, ◌*◌, ◌/◌, ◌%◌, ◌≤◌, ◌<◌, ◌≡◌, ap, ap₂, subst, ◌∙◌, ⊎_elim, true, ◌&&◌, List, arith, eq-eqb, ne_eqb, eqb, lit<, length, get_or}
 use Rattle.obligations.specs.Sets.{member}
 use Rattle.obligations.specs.State.{count, inputs, outputs, possible, after, all_zero}
 use Rattle.obligations.specs.Sequence.{NothingLeft}

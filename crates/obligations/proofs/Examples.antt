@@ -1,8 +1,5 @@
 -- The definitions computed on sequences of the papers. Assumes nothing.
-use mathlib.Core.Path.{◌≡◌, refl}
-use mathlib.Core.Bool.{true, false}
-use mathlib.Core.List.{[], ◌∷◌}
-use lib.ListN.{take}
+use Rattle.std.proofs.Common.{◌≡◌, refl, true, false, [], ◌∷◌, take}
 use Rattle.obligations.specs.Tests.{first_from, first_failing}
 use Rattle.obligations.specs.Sets.{member, bit, members, size, subset, minus}
 use Rattle.obligations.specs.State.{count, nothing, places_of, inputs, outputs, all_due, lowered, raised, possible, taken, added, after, all_zero, total}

@@ -1,10 +1,7 @@
 -- Laws of lists of any kind: what stands at a place of a list is one of its elements, and what a walk over a list has come to. Assumes nothing.
-use Prim.Native.Nat.{ℕ, zero, suc, ◌<◌, ◌≤◌, ◌+◌}
-use native.Mathlib.Omega.{arith}
-use mathlib.Core.List.{List, [], ◌∷◌, Memᴰ}
-use mathlib.Core.Path.{◌≡◌, refl}
+use Rattle.std.proofs.Common.{ℕ, zero, suc, ◌<◌, ◌≤◌, ◌+◌, arith, List, [], ◌∷◌, ◌≡◌, refl, length, get_or, drop}
+use mathlib.Core.List.{Memᴰ}
 use Rattle.std.proofs.lemmas.List.{drop_more}
-use lib.ListN.{length, get_or, drop}
 
 pub member-at : {A : Type 0} (l : List A) (i : ℕ) (d : A) → i < length l → Memᴰ (get_or l i d) l
 member-at [] i d h = absurd (omega arith)

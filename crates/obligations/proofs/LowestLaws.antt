@@ -1,16 +1,10 @@
 -- Laws of a set's lowest member, which trailing zeros find: it is a member, none is below it, and the set without it is what the
 -- mask and the number before it have in common. Each goes digit by digit. Assumes nothing.
-use Prim.Native.Nat.{ℕ, zero, suc, ◌+◌, ◌-◌, ◌*◌, ◌/◌, ◌%◌, ◌^◌, ◌<◌, min}
-use mathlib.Core.Path.{◌≡◌, refl, sym, ap, ◌∙◌}
-use mathlib.Core.Logic.{⊎_elim}
-use mathlib.Core.Bool.{true, false}
+use Rattle.std.proofs.Common.{ℕ, zero, suc, ◌+◌, ◌-◌, ◌*◌, ◌/◌, ◌%◌, ◌^◌, ◌<◌, min, ◌≡◌, refl, sym, ap, ◌∙◌, ⊎_elim, true, false, pow-suc, mod-eq_of_lt, arith, lt-ltb, bit_and, pow_pos}
 use mathlib.Core.List.Memᴰ
-use native.Mathlib.Nat.{pow-suc, mod-eq_of_lt}
-use native.Mathlib.Omega.{arith}
-use borrow.Author.Tests.{lt-ltb}
-use lib.Bits.{bit_and, and_step, and_mask}
+use lib.Bits.{and_step, and_mask}
 use lib.Count.{count_trailing_zeros, under}
-use lib.Pow.{pow_pos, pow-lt}
+use lib.Pow.{pow-lt}
 use Rattle.obligations.specs.Sets.{bit, member, single, minus}
 use Rattle.obligations.proofs.BitLaws.{half_lt, parity, bit-zero, bit-suc}
 use Rattle.obligations.proofs.SetLaws.{member-bit}

@@ -1,18 +1,10 @@
 -- Laws of the list of a set's members: its lowest member is found by trailing zeros and taken off by a subtraction, its
 -- length is the count of ones, and it lists exactly the members. Each goes digit by digit. Assumes nothing.
-use Prim.Native.Nat.{ℕ, zero, suc, ◌+◌, ◌-◌, ◌*◌, ◌/◌, ◌%◌, ◌^◌, ◌≤◌, ◌<◌, min}
-use mathlib.Core.Path.{◌≡◌, refl, sym, ap, ap₂, ◌∙◌}
-use mathlib.Core.Logic.{◌↔◌, ◌⊎◌, inl, inr, ⊎_elim}
-use mathlib.Core.Bool.{true}
+use Rattle.std.proofs.Common.{ℕ, zero, suc, ◌+◌, ◌-◌, ◌*◌, ◌/◌, ◌%◌, ◌^◌, ◌≤◌, ◌<◌, min, ◌≡◌, refl, sym, ap, ap₂, ◌∙◌, ◌↔◌, ◌⊎◌, inl, inr, ⊎_elim, true, List, [], ◌∷◌, mod-lt, add-zero, zero-add, pow-suc, arith, lt-ltb, bit_and, lit<, length}
 use mathlib.Core.List.Memᴰ
-use mathlib.Core.List.{List, [], ◌∷◌, Memᴰ}
-use native.Mathlib.Nat.{mod-lt, add-zero, zero-add, pow-suc}
-use native.Mathlib.Omega.{arith}
-use borrow.Author.Tests.{lt-ltb}
-use lib.Bits.{bit_and, and_step, and_self}
+use mathlib.Core.List.{Memᴰ}
+use lib.Bits.{and_step, and_self}
 use lib.Count.{ones, ones_in, ones_step, count_trailing_zeros, under}
-use lib.Dec.{lit<}
-use lib.ListN.{length}
 use Rattle.obligations.specs.Tests.{number}
 use Rattle.obligations.specs.Sets.{bit, member, single, keep, members_from, members, size}
 use Rattle.obligations.proofs.TestLaws.{number_ext, number-first}

@@ -1,16 +1,8 @@
 -- Laws of places in a state: how often a set selects a place, what one less or one more at each selected place makes of
 -- the counts, and one turn of the walk over a set's members. No place is selected twice. Assumes nothing.
-use Prim.Native.Nat.{ℕ, zero, suc, ◌+◌, ◌-◌, ◌*◌, ◌/◌, ◌%◌, ◌≤◌, ◌<◌}
-use mathlib.Core.Path.{◌≡◌, refl, sym, ap, subst, ◌∙◌}
-use mathlib.Core.Logic.{◌⊎◌, inl, inr, ⊎_elim}
-use mathlib.Core.Bool.{true, false}
+use Rattle.std.proofs.Common.{ℕ, zero, suc, ◌+◌, ◌-◌, ◌*◌, ◌/◌, ◌%◌, ◌≤◌, ◌<◌, ◌≡◌, refl, sym, ap, subst, ◌∙◌, ◌⊎◌, inl, inr, ⊎_elim, true, false, List, [], ◌∷◌, map, mod-lt, mul-le-mul_right, eq-zero-or-pos, arith, le-leb, leb-true, leb, lit<, length, get_or, set, length-set}
 use mathlib.Core.List.Memᴰ
-use mathlib.Core.List.{List, [], ◌∷◌, map}
-use native.Mathlib.Nat.{mod-lt, mul-le-mul_right, eq-zero-or-pos}
-use native.Mathlib.Omega.{arith}
-use borrow.Author.Tests.{le-leb, leb-true}
-use lib.Dec.{leb, lit<}
-use lib.ListN.{length, get_or, set, length-set, length-map, get_or-eq_default}
+use lib.ListN.{length-map, get_or-eq_default}
 use Rattle.obligations.specs.Sets.{bit, single, keep, members_from, members, size}
 use Rattle.obligations.specs.State.{places_of, all_due, lowered, raised, State, most_due}
 use Rattle.obligations.proofs.BoolLaws.{and_left, and_right, and_both}

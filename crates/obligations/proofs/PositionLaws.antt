@@ -1,13 +1,7 @@
 -- The first position at which a test fails, said of each position: either the test passes at all and the answer is 0, or
 -- the answer is the position of a failure with none before it. Assumes nothing.
-use Prim.Native.Nat.{ℕ, zero, suc, ◌+◌, ◌<◌}
-use mathlib.Core.Path.{◌≡◌, refl, sym, ap, subst, ◌∙◌}
-use mathlib.Core.Logic.{◌⊎◌, inl, inr, ⊎_elim}
-use mathlib.Core.Bool.{Bool, true, false}
-use native.Mathlib.Nat.{zero-add, add-zero}
-use native.Mathlib.Omega.{arith}
+use Rattle.std.proofs.Common.{ℕ, zero, suc, ◌+◌, ◌<◌, ◌≡◌, refl, sym, ap, subst, ◌∙◌, ◌⊎◌, inl, inr, ⊎_elim, Bool, true, false, zero-add, add-zero, arith, Some, None}
 use Rattle.obligations.specs.Tests.{first_from, first_failing, position_of}
-use Rattle.std.proofs.Common.{Some, None}
 use Rattle.obligations.proofs.BoolLaws.{true_or_false}
 use Rattle.obligations.proofs.SetLaws.{lt_or_le}
 

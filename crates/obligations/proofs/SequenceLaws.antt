@@ -1,14 +1,7 @@
 -- Laws of sequences: words and bindings, the state after one position more, how far its counts can grow, and the tests of
 -- `possible` and of the last state said of every position. Assumes nothing.
-use Prim.Native.Nat.{ℕ, zero, suc, ◌+◌, ◌-◌, ◌*◌, ◌≤◌, ◌<◌}
-use mathlib.Core.Path.{◌≡◌, refl, sym, ap, subst}
-use mathlib.Core.Logic.{⊎_elim, ◌↔◌}
-use mathlib.Core.Bool.{true, ◌&&◌}
-use mathlib.Core.List.{List, [], ◌∷◌, ◌++◌}
-use native.Mathlib.Numerals.{add-one}
-use native.Mathlib.Omega.{arith}
-use lib.ListN.{length, get_or, take, drop}
-use lib.Seq.{take-suc, take-length}
+use Rattle.std.proofs.Common.{ℕ, zero, suc, ◌+◌, ◌-◌, ◌*◌, ◌≤◌, ◌<◌, ◌≡◌, refl, sym, ap, subst, ⊎_elim, ◌↔◌, true, ◌&&◌, List, [], ◌∷◌, ◌++◌, add-one, arith, length, get_or, take, drop, take-suc}
+use lib.Seq.{take-length}
 use Rattle.obligations.specs.Limits.{positions}
 use Rattle.obligations.specs.Tests.{first_failing}
 use Rattle.obligations.specs.State.{nothing, possible, after, all_zero, State, most_due}

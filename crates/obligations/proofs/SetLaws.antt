@@ -1,15 +1,9 @@
 -- Laws of sets of activities: membership after each operation, the subset test, extensionality, and sets that differ by a
 -- member. Each is read off the bits of the masks or off membership. Assumes nothing.
-use Prim.Native.Nat.{ℕ, zero, suc, ◌-◌, ◌/◌, ◌^◌, ◌≤◌, ◌<◌, min, max}
-use mathlib.Core.Path.{◌≡◌, refl, sym, ap, ◌∙◌}
-use mathlib.Core.Logic.{◌⊎◌, inl, inr, ⊎_elim}
-use mathlib.Core.Bool.{Bool, true, false, cond, not, ◌&&◌, ◌||◌}
-use native.Mathlib.Nat.{eq-or-lt_of_le}
+use Rattle.std.proofs.Common.{ℕ, zero, suc, ◌-◌, ◌/◌, ◌^◌, ◌≤◌, ◌<◌, min, max, ◌≡◌, refl, sym, ap, ◌∙◌, ◌⊎◌, inl, inr, ⊎_elim, Bool, true, false, cond, not, ◌&&◌, ◌||◌, eq-or-lt_of_le, arith, eq-eqb, ne_eqb, eqb-true, lt-ltb, le-ltb, eqb, ltb}
 use native.Mathlib.Decide.{dec_lt}
-use native.Mathlib.Omega.{arith}
-use borrow.Author.Tests.{eq-eqb, ne_eqb, eqb-true, eqb-false, lt-ltb, le-ltb, not-true}
+use borrow.Author.Tests.{eqb-false, not-true}
 use lib.Bits.{and_lt, or_lt, and_le_l, and_le_r, or_add_and}
-use lib.Dec.{eqb, ltb}
 use lib.Pow.{pow-lt, ones_sub-lt}
 use Rattle.obligations.specs.Tests.{indicator}
 use Rattle.obligations.specs.Sets.{bit, member, single, union, minus, subset}

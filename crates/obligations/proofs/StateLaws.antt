@@ -1,18 +1,9 @@
 -- Laws of the state and its step: what each part of a step does to every count, that undoing gives the state back, how far
 -- the counts can grow, and the test that all are zero. The layers above use these and no definition's text. Assumes nothing.
-use Prim.Native.Nat.{ℕ, zero, suc, ◌+◌, ◌-◌, ◌*◌, ◌≤◌, ◌<◌}
-use mathlib.Core.Path.{◌≡◌, refl, sym, ap, ◌∙◌}
-use mathlib.Core.Logic.{⊎_elim}
-use mathlib.Core.Bool.{Bool, true, false, ◌&&◌, and_assoc, and-true}
-use mathlib.Core.List.{List, [], ◌∷◌}
-use native.Mathlib.Nat.{eq-zero-or-pos}
-use native.Mathlib.Omega.{arith}
-use borrow.Author.Tests.{eq-eqb, eqb-true}
-use lib.Bits.{bit_or, or_add_and, and_le_l, and_le_r}
-use lib.Dec.{eqb, lit<}
-use lib.ListN.{length, get_or, take, drop, replicate, length-take, get_or-replicate, get_or-eq_default}
-use lib.Seq.{ext_get_or, get_or-take, get_or-drop, drop-drop}
-use Rattle.std.proofs.Common.{fold}
+use Rattle.std.proofs.Common.{ℕ, zero, suc, ◌+◌, ◌-◌, ◌*◌, ◌≤◌, ◌<◌, ◌≡◌, refl, sym, ap, ◌∙◌, ⊎_elim, Bool, true, false, ◌&&◌, List, [], ◌∷◌, eq-zero-or-pos, arith, eq-eqb, eqb-true, bit_or, eqb, lit<, length, get_or, take, drop, replicate, length-take, ext_get_or, get_or-take, get_or-drop, drop-drop, fold}
+use mathlib.Core.Bool.{and_assoc, and-true}
+use lib.Bits.{or_add_and, and_le_l, and_le_r}
+use lib.ListN.{get_or-replicate, get_or-eq_default}
 use Rattle.std.specs.Bool.{MatchBool}
 use Rattle.std.specs.List.{AllWithin, HoldsAt, range_with_len}
 use Rattle.obligations.specs.Sets.{single}

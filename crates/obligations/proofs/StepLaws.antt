@@ -1,17 +1,10 @@
 -- What a step reports and leaves, by whether its binding is possible, and what its report shows. The total that is carried fits:
 -- a possible binding takes no more than there is, and the counts of a state bound their total. Assumes nothing.
-use Prim.Native.Nat.{ℕ, suc, ◌+◌, ◌-◌, ◌*◌, ◌≤◌, ◌<◌}
-use mathlib.Core.Path.{◌≡◌, refl, ap, ◌∙◌}
-use mathlib.Core.Bool.{Bool, true, false, cond}
-use mathlib.Core.List.{List, [], ◌∷◌}
-use mathlib.Core.Logic.{⊎_elim}
-use native.Mathlib.Omega.{arith}
-use lib.ListN.{length, get_or}
+use Rattle.std.proofs.Common.{ℕ, suc, ◌+◌, ◌-◌, ◌*◌, ◌≤◌, ◌<◌, ◌≡◌, refl, ap, ◌∙◌, Bool, true, false, cond, List, [], ◌∷◌, ⊎_elim, arith, length, get_or, Some, None}
 use Rattle.obligations.specs.Sets.{size}
 use Rattle.obligations.specs.State.{possible, after, total, step_says, step_gives, State, most_due}
 use Rattle.obligations.specs.Sequence.{Binding, Possible}
 use Rattle.obligations.specs.Statements.{StepSaid}
-use Rattle.std.proofs.Common.{Some, None}
 use Rattle.obligations.proofs.BoolLaws.{true_or_false, false-not-true}
 use Rattle.obligations.proofs.MemberLaws.{size_le}
 use Rattle.obligations.proofs.CountLaws.{possible-count, count-possible}

@@ -1,10 +1,5 @@
 -- Laws of how many numbers below a limit pass a test, each by induction on the limit. Assumes nothing.
-use Prim.Native.Nat.{ℕ, zero, suc, ◌+◌, ◌≤◌, ◌<◌}
-use mathlib.Core.Path.{◌≡◌, refl, ap₂}
-use mathlib.Core.Logic.{◌⊎◌, ⊎_elim}
-use mathlib.Core.Bool.{Bool, true, false}
-use native.Mathlib.Nat.{eq-or-lt_of_le, le_of_suc-le-suc}
-use native.Mathlib.Omega.{arith}
+use Rattle.std.proofs.Common.{ℕ, zero, suc, ◌+◌, ◌≤◌, ◌<◌, ◌≡◌, refl, ap₂, ◌⊎◌, ⊎_elim, Bool, true, false, eq-or-lt_of_le, le_of_suc-le-suc, arith}
 use Rattle.obligations.specs.Tests.{indicator, number}
 use Rattle.obligations.proofs.BoolLaws.{false-not-true}
 

@@ -1,14 +1,6 @@
 -- The total of the counts: a possible step takes as many as x has members and adds as many as y has. Each place is lowered
 -- or raised by one, and a set selects as many places as it has members. Assumes nothing.
-use Prim.Native.Nat.{ℕ, zero, suc, ◌+◌, ◌-◌, ◌*◌, ◌/◌, ◌%◌, ◌≤◌, ◌<◌}
-use mathlib.Core.Path.{◌≡◌, refl, ◌∙◌}
-use mathlib.Core.Bool.{true}
-use mathlib.Core.List.{List, [], ◌∷◌, map}
-use native.Mathlib.Nat.{mul-le-mul_right}
-use native.Mathlib.Omega.{arith}
-use borrow.Author.Tests.{eq-eqb, eqb-true}
-use lib.Dec.{eqb, lit<}
-use lib.ListN.{length, get_or, set, length-set}
+use Rattle.std.proofs.Common.{ℕ, zero, suc, ◌+◌, ◌-◌, ◌*◌, ◌/◌, ◌%◌, ◌≤◌, ◌<◌, ◌≡◌, refl, ◌∙◌, true, List, [], ◌∷◌, map, mul-le-mul_right, arith, eq-eqb, eqb-true, eqb, lit<, length, get_or, set, length-set}
 use Rattle.obligations.specs.Sets.{keep, members_from, members, size}
 use Rattle.obligations.specs.State.{places_of, inputs, outputs, lowered, raised, possible, taken, added, after, total, all_zero}
 use Rattle.obligations.proofs.BoolLaws.{and_left, and_right, and_both}

@@ -1,13 +1,7 @@
 -- The tests on the activities of a trace or a sequence, said of each position. Assumes nothing.
-use Prim.Native.Nat.{ℕ, suc, ◌+◌, ◌*◌, ◌-◌, ◌≤◌, ◌<◌}
-use mathlib.Core.Path.{◌≡◌, refl, sym, ap, ap₂, ◌∙◌}
-use mathlib.Core.Logic.{◌↔◌, ◌⊎◌, inl, inr, ⊎_elim}
-use mathlib.Core.Bool.{Bool, true, false, ◌&&◌, beq, and-false}
-use native.Mathlib.Nat.{mul-suc, mul-le-mul_left}
-use native.Mathlib.Numerals.{add-one}
-use native.Mathlib.Omega.{arith}
-use borrow.Author.Tests.{eq-eqb, ne_eqb, eqb-true, le-leb, leb-true, lt-leb, le-ltb, ltb-true, lt-ltb}
-use lib.Dec.{eqb, leb, ltb}
+use Rattle.std.proofs.Common.{ℕ, suc, ◌+◌, ◌*◌, ◌-◌, ◌≤◌, ◌<◌, ◌≡◌, refl, sym, ap, ap₂, ◌∙◌, ◌↔◌, ◌⊎◌, inl, inr, ⊎_elim, Bool, true, false, ◌&&◌, mul-suc, mul-le-mul_left, add-one, arith, eq-eqb, ne_eqb, eqb-true, le-leb, leb-true, le-ltb, ltb-true, lt-ltb, eqb, leb, ltb}
+use mathlib.Core.Bool.{beq, and-false}
+use borrow.Author.Tests.{lt-leb}
 use Rattle.obligations.specs.Limits.{activities}
 use Rattle.obligations.specs.Tests.{first_failing}
 use Rattle.obligations.specs.Trace.{first_no_activity, ends_agree, shaped, Shaped}

@@ -1,10 +1,6 @@
 -- `has` meets its contract: the lowest bit after a shift is the bit asked for, and no bit stands above the width. Assumes nothing.
-use borrow.Author.Tests.{ne_eqb}
-use native.Mathlib.Omega.{arith}
-use Prim.Native.Nat.{ℕ, ◌/◌, ◌^◌}
-use mathlib.Core.Path.{sym, ap}
+use Rattle.std.proofs.Common.{ne_eqb, arith, ℕ, ◌/◌, ◌^◌, sym, ap, eqb}
 use lib.Bits.{and_mask}
-use lib.Dec.{eqb}
 use Rattle.obligations.specs.Sets.{bit, member}
 use Rattle.obligations.proofs.BitLaws.{bit_above}
 use Rattle.obligations.proofs.sets.has.Goals as goal

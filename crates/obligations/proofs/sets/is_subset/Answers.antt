@@ -1,7 +1,5 @@
 -- `is_subset` meets its contract: nothing of the set is left without the other. Assumes nothing.
-use Prim.Native.Nat.{ℕ}
-use mathlib.Core.Path.{ap}
-use lib.Dec.{eqb}
+use Rattle.std.proofs.Common.{ℕ, ap, eqb}
 use Rattle.obligations.specs.Sets.{subset}
 use Rattle.obligations.proofs.sets.is_subset.Goals as goal
 

@@ -1,5 +1,5 @@
 -- `minus` meets its contract, which is the machine's operation. Assumes nothing.
-use mathlib.Core.Path.{refl}
+use Rattle.std.proofs.Common.{refl}
 use Rattle.obligations.specs.Sets.{minus}
 use Rattle.obligations.proofs.sets.minus.Goals as goal
 

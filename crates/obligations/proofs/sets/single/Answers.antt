@@ -1,5 +1,5 @@
 -- `single` meets its contract: a shift of one by less than the width is the power of two. Assumes nothing.
-use borrow.Author.Tests.{lt-ltb, le-ltb}
+use Rattle.std.proofs.Common.{lt-ltb, le-ltb}
 use Rattle.obligations.specs.Sets.{single}
 use Rattle.obligations.proofs.BitLaws.{one_shl}
 use Rattle.obligations.proofs.sets.single.Goals as goal

@@ -1,5 +1,5 @@
 -- `size` meets its contract: the count of ones is the number of members. Assumes nothing.
-use mathlib.Core.Path.{sym}
+use Rattle.std.proofs.Common.{sym}
 use Rattle.obligations.proofs.MemberLaws.{size-ones}
 use Rattle.obligations.proofs.sets.size.Goals as goal
 

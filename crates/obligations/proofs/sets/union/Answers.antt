@@ -1,5 +1,5 @@
 -- `union` meets its contract, which is the machine's operation. Assumes nothing.
-use mathlib.Core.Path.{refl}
+use Rattle.std.proofs.Common.{refl}
 use Rattle.obligations.specs.Sets.{union}
 use Rattle.obligations.proofs.sets.union.Goals as goal
 

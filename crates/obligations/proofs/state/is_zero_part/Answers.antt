@@ -1,7 +1,6 @@
 -- `is_zero_part` meets its contract: what all counts have together is zero exactly if each of them is. Assumes nothing.
-use Rattle.std.proofs.Common.{◌≡◌, ℕ, ap, ◌∙◌, rules, bit_or, fold}
+use Rattle.std.proofs.Common.{◌≡◌, ℕ, ap, ◌∙◌, rules, bit_or, fold, eqb}
 use Rattle.std.proofs.iter.runs.Made.{chains}
-use lib.Dec.{eqb}
 use Rattle.obligations.proofs.StateLaws.{zero_fold}
 use Rattle.obligations.proofs.state.is_zero_part.Goals as goal
 

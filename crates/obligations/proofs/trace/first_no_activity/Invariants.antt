@@ -1,5 +1,4 @@
-use Rattle.std.proofs.Common.{◌*◌, get_or}
-use lib.Dec.{ltb}
+use Rattle.std.proofs.Common.{◌*◌, get_or, ltb}
 use Rattle.obligations.proofs.PositionLaws.{AllPass}
 use Rattle.obligations.proofs.trace.first_no_activity.Given as goal
 
