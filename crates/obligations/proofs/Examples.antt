@@ -2,7 +2,8 @@
 use Rattle.std.proofs.Common.{◌≡◌, refl, true, false, [], ◌∷◌, take}
 use Rattle.obligations.specs.Tests.{first_from, first_failing}
 use Rattle.obligations.specs.Sets.{member, bit, members, size, subset, minus}
-use Rattle.obligations.specs.State.{count, nothing, places_of, inputs, outputs, all_due, lowered, raised, possible, taken, added, after, all_zero, total}
+use Rattle.obligations.specs.Places.{places_of}
+use Rattle.obligations.specs.State.{count, nothing, inputs, outputs, all_due, lowered, raised, possible, taken, added, after, all_zero, total}
 use Rattle.obligations.specs.Examples.{fig4}
 use Rattle.obligations.specs.Sequence.{bindings, run, ψ, possible_at, first_impossible, completes}
 

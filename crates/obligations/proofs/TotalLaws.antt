@@ -2,7 +2,8 @@
 -- or raised by one, and a set selects as many places as it has members. Assumes nothing.
 use Rattle.std.proofs.Common.{ℕ, zero, suc, ◌+◌, ◌-◌, ◌*◌, ◌/◌, ◌%◌, ◌≤◌, ◌<◌, ◌≡◌, refl, ◌∙◌, true, List, [], ◌∷◌, map, mul-le-mul_right, arith, eq-eqb, eqb-true, eqb, lit<, length, get_or, set, length-set}
 use Rattle.obligations.specs.Sets.{keep, members_from, members, size}
-use Rattle.obligations.specs.State.{places_of, inputs, outputs, lowered, raised, possible, taken, added, after, total, all_zero}
+use Rattle.obligations.specs.Places.{places_of}
+use Rattle.obligations.specs.State.{inputs, outputs, lowered, raised, possible, taken, added, after, total, all_zero}
 use Rattle.obligations.proofs.BoolLaws.{and_left, and_right, and_both}
 use Rattle.obligations.proofs.PlaceLaws.{Covers, covers_head, covers-next, due_covers, placed, places-size}
 use Rattle.obligations.proofs.StateLaws.{length_taken}

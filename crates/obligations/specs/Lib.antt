@@ -3,6 +3,7 @@
 pub mod Limits
 pub mod Tests
 pub mod Sets
+pub mod Places
 pub mod State
 pub mod Trace
 pub mod Sequence

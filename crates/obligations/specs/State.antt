@@ -1,7 +1,8 @@
 -- The state of pending obligations and the step of a binding (01, "Obligations and the step"; 02, (i)).
-use Rattle.std.specs.Prelude.{ℕ, ◌+◌, ◌-◌, ◌*◌, ◌≤◌, ◌≡◌, Bool, true, cond, ◌&&◌, List, [], ◌∷◌, map, leb, eqb, get_or, set, length, replicate, Option, Some, None}
+use Rattle.std.specs.Prelude.{ℕ, ◌+◌, ◌-◌, ◌*◌, ◌≤◌, ◌≡◌, Bool, true, cond, ◌&&◌, List, [], ◌∷◌, leb, eqb, get_or, set, length, replicate, Option, Some, None}
 use Rattle.obligations.specs.Limits.{activities, pairs}
-use Rattle.obligations.specs.Sets.{members}
+use Rattle.obligations.specs.Places.{places_of}
+use Rattle.obligations.specs.declared.places.Places.{Places}
 
 -- how often q is still due because of p; a state is the list of these counts, the 32 of each q together
 unfoldable pub count : List ℕ → ℕ → ℕ → ℕ
@@ -11,9 +12,9 @@ count d p q = get_or d (q * activities + p) 0
 abbrev pub nothing : List ℕ
 nothing = replicate pairs 0
 
--- the places that a set selects: one for each member k, at base + k * stride
-unfoldable pub places_of : ℕ → ℕ → ℕ → List ℕ
-places_of base stride m = map (λ k. base + k * stride) (members m)
+-- of the code alone: the places that a walk over them has left
+abbrev pub places_left : Places → List ℕ
+places_left w = places_of w.base w.stride w.members.rest
 
 -- the places of (p, a) for p in x
 unfoldable pub inputs : ℕ → ℕ → List ℕ

@@ -4,6 +4,7 @@
 
 #![tactic(auto)]
 
+mod places;
 pub mod sequence;
 pub mod sets;
 pub mod state;

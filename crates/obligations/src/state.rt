@@ -7,8 +7,9 @@
 
 ghost use Rattle.std.specs.Prelude.{◌≡◌, true, List, ℕ, ◌≤◌, ◌<◌, ◌+◌, ◌-◌, ◌*◌, length};
 ghost use Rattle.obligations.specs.Limits.{activities, pairs};
-ghost use Rattle.obligations.specs.State.{nothing, places_of, all_due, lowered, raised, possible, taken, added, covers, unadded, untaken, before, all_zero, total, State, most_due, step_says, step_gives};
+ghost use Rattle.obligations.specs.State.{nothing, places_left, inputs, outputs, all_due, lowered, raised, possible, taken, added, covers, unadded, untaken, before, all_zero, total, State, most_due, step_says, step_gives};
 
+use crate::places::Places;
 use crate::sequence::Binding;
 use crate::sets::{members, size};
 use crate::{ACTIVITIES, PAIRS};
@@ -47,7 +48,8 @@ impl Due {
         requires { a < activities }
         ensures { result ≡ possible self.now a x }
     {
-        all_due(&self.counts, a * ACTIVITIES, 1, x)
+        let counts = &self.counts;
+        inputs(a, x).all(|i| counts[i] != 0)
     }
 
     // Takes one from each (p, a) with p in x.
@@ -56,7 +58,7 @@ impl Due {
         requires is_possible { possible self.old a x ≡ true }
         ensures { self.new ≡ taken self.old a x }
     {
-        lower(&mut self.counts, a * ACTIVITIES, 1, x);
+        lower(&mut self.counts, inputs(a, x));
     }
 
     // Adds one to each (a, q) with q in y.
@@ -65,7 +67,7 @@ impl Due {
         requires has_room { State most_due self.old }
         ensures { self.new ≡ added self.old a y }
     {
-        raise(&mut self.counts, a, ACTIVITIES, y);
+        raise(&mut self.counts, outputs(a, y));
     }
 
     // Undoes `take`.
@@ -74,7 +76,7 @@ impl Due {
         requires has_room { State most_due self.old }
         ensures { self.new ≡ untaken self.old a x }
     {
-        raise(&mut self.counts, a * ACTIVITIES, 1, x);
+        raise(&mut self.counts, inputs(a, x));
     }
 
     // Undoes `add`.
@@ -83,7 +85,7 @@ impl Due {
         requires is_covered { covers self.old a y ≡ true }
         ensures { self.new ≡ unadded self.old a y }
     {
-        lower(&mut self.counts, a, ACTIVITIES, y);
+        lower(&mut self.counts, outputs(a, y));
     }
 
     // Takes the step of a binding and reports the total of counts after it, if the binding is possible; else changes nothing.
@@ -136,49 +138,46 @@ fn is_zero_part(counts: &[u8]) -> bool
     counts.iter().fold(0, |seen, n| seen | *n) == 0
 }
 
-// The place of the member k: base + k * stride.
-fn place(base: u32, stride: u32, k: u32) -> usize
-    requires inside { base + 31 * stride < pairs }
-    requires is_activity { k < activities }
-    ensures value { result ≡ base + k * stride }
-    ensures in_range { result < pairs }
+// The places of (p, a) for p in x.
+fn inputs(a: u32, x: u32) -> Places
+    requires { a < activities }
+    ensures { places_left result ≡ inputs a x }
 {
-    (base + k * stride) as usize
-}
-
-// Whether each place of a member of the set has a count of at least 1.
-fn all_due(counts: &[u8; PAIRS], base: u32, stride: u32, set: u32) -> bool
-    requires { base + 31 * stride < pairs }
-    ensures { result ≡ all_due counts.now (places_of base stride set) }
-{
-    for k in members(set) {
-        if counts[place(base, stride, k)] == 0 {
-            return false;
-        }
-    }
-    true
-}
-
-// Takes one from each place of a member of the set.
-fn lower(counts: &mut [u8; PAIRS], base: u32, stride: u32, set: u32)
-    requires inside { base + 31 * stride < pairs }
-    requires apart { 0 < stride }
-    requires due { all_due counts.old (places_of base stride set) ≡ true }
-    ensures { counts.new ≡ lowered counts.old (places_of base stride set) }
-{
-    for k in members(set) {
-        counts[place(base, stride, k)] -= 1;
+    Places {
+        base: a * ACTIVITIES,
+        stride: 1,
+        members: members(x),
     }
 }
 
-// Adds one to each place of a member of the set.
-fn raise(counts: &mut [u8; PAIRS], base: u32, stride: u32, set: u32)
-    requires inside { base + 31 * stride < pairs }
-    requires apart { 0 < stride }
-    requires has_room { State most_due counts.old }
-    ensures { counts.new ≡ raised counts.old (places_of base stride set) }
+// The places of (a, q) for q in y.
+fn outputs(a: u32, y: u32) -> Places
+    requires { a < activities }
+    ensures { places_left result ≡ outputs a y }
 {
-    for k in members(set) {
-        counts[place(base, stride, k)] += 1;
+    Places {
+        base: a,
+        stride: ACTIVITIES,
+        members: members(y),
+    }
+}
+
+// Takes one from each of the places.
+fn lower(counts: &mut [u8; PAIRS], places: Places)
+    requires { all_due counts.old (places_left places) ≡ true }
+    ensures { counts.new ≡ lowered counts.old (places_left places) }
+{
+    for i in places {
+        counts[i] -= 1;
+    }
+}
+
+// Adds one to each of the places.
+fn raise(counts: &mut [u8; PAIRS], places: Places)
+    requires { State most_due counts.old }
+    ensures { counts.new ≡ raised counts.old (places_left places) }
+{
+    for i in places {
+        counts[i] += 1;
     }
 }

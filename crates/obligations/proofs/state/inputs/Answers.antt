@@ -1,0 +1,9 @@
+-- `inputs` meets its contract: it is the definition. Assumes nothing.
+use Rattle.std.proofs.Common.{ap, ℕ, ◌*◌}
+use Rattle.obligations.specs.Places.{places_of}
+use Rattle.obligations.specs.State.{inputs}
+use Rattle.obligations.proofs.state.inputs.Goals as goal
+
+pub returns : goal.returns
+unfolding inputs
+returns c = ap (λ (m : ℕ). places_of (c.args.a * 32) 1 m) c.members.ensures
