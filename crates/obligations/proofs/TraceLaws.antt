@@ -1,5 +1,5 @@
 -- The tests on the activities of a trace or a sequence, said of each position. Assumes nothing.
-use Rattle.std.proofs.Common.{ℕ, suc, ◌+◌, ◌*◌, ◌-◌, ◌≤◌, ◌<◌, ◌≡◌, refl, sym, ap, ap₂, ◌∙◌, ◌↔◌, ◌⊎◌, inl, inr, ⊎_elim, Bool, true, false, ◌&&◌, mul-suc, mul-le-mul_left, add-one, arith, eq-eqb, ne_eqb, eqb-true, le-leb, leb-true, le-ltb, ltb-true, lt-ltb, eqb, leb, ltb}
+use Rattle.std.proofs.Common.{ℕ, suc, ◌+◌, ◌-◌, ◌≤◌, ◌<◌, ◌≡◌, refl, sym, ap, ap₂, ◌∙◌, ◌↔◌, ◌⊎◌, inl, inr, ⊎_elim, Bool, true, false, ◌&&◌, arith, eq-eqb, ne_eqb, eqb-true, le-leb, leb-true, le-ltb, ltb-true, lt-ltb, eqb, leb, ltb}
 use mathlib.Core.Bool.{beq, and-false}
 use borrow.Author.Tests.{lt-leb}
 use Rattle.obligations.specs.Limits.{activities}
@@ -43,16 +43,6 @@ module _ (start end n : ℕ) (activity_at : ℕ → ℕ) where
       and_both (le-leb 2 n f.two)
       (eq-eqb (first_failing n (ends_agree start end n activity_at)) 0 (pass_first n (ends_agree start end n activity_at) (λ i l.
       and_both ((agree_iff (activity_at i) start i 0).1 (f.start_first_only i l)) ((agree_iff (activity_at i) end (i + 1) n).1 (f.end_last_only i l)))))
-
--- ---- words that stand `stride` apart
-
-pub stride_next : (stride i : ℕ) → stride * (i + 1) ≡ stride * i + stride
-stride_next stride i = rw add-one (mul-suc stride i)
-
-pub stride_inside : (stride i n size : ℕ) → 0 < stride → i < n → stride * n ≤ size → stride * i + stride ≤ size
-stride_inside stride i n size p h l =
-    let q : stride * (i + 1) ≤ stride * n = mul-le-mul_left stride (omega arith) in
-    omega (arith, stride_next stride i)
 
 -- ---- the loops' ways out
 
