@@ -9,19 +9,19 @@ use borrow.Author.Tests.{eqb-true, eq-eqb}
 use Rattle.obligations.specs.Limits.{activities}
 use Rattle.obligations.proofs.BoolLaws.{and_left, and_right, true_or_false}
 use Rattle.net.specs.Lists.{all_listed}
-use Rattle.net.specs.Sides.{masks_of, lengths_of, sets_on, OnSide}
+use Rattle.net.specs.Sides.{sides_of, sets_on, OnSide}
 use Rattle.net.specs.Put.{put_says, put_gives}
 use Rattle.net.specs.Contained.{sides_within, contained, Contained}
 use Rattle.net.specs.declared.Net.{Net}
-use Rattle.net.specs.declared.Side.{Side}
-use Rattle.net.specs.declared.Side.TheVariants.{Input, Output}
+use Rattle.net.specs.declared.sides.Side.{Side}
+use Rattle.net.specs.declared.sides.Side.TheVariants.{Input, Output}
 use Rattle.net.proofs.BelowLaws.{below_at, below_true}
 use Rattle.net.proofs.ListLaws.{all_listed-at, at-all_listed}
 use Rattle.net.proofs.PutLaws.{put_refused, put_start, put_end, put_on_side}
 
 module _ (net other : Net) where
   within : Side → Bool
-  within side = sides_within (masks_of net side) (lengths_of net side) (masks_of other side) (lengths_of other side)
+  within side = sides_within (sides_of net side) (sides_of other side)
 
   within_facts : (side : Side) → within side ≡ true → (a m : ℕ) → a < activities → OnSide net side a m → OnSide other side a m
   unfolding within sides_within

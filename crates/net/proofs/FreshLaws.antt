@@ -20,8 +20,8 @@ use Rattle.net.specs.Sides.{block, uncounted, side_in, empty_at, sets_on, counts
 use Rattle.net.specs.Inner.{OrderlySides}
 use Rattle.net.specs.Orderly.{block_ok, ends_ok, sides_ok, orderly}
 use Rattle.net.specs.Fresh.{fresh_net, fresh_gives}
-use Rattle.net.specs.declared.Side.{Side}
-use Rattle.net.specs.declared.Side.TheVariants.{Input, Output}
+use Rattle.net.specs.declared.sides.Side.{Side}
+use Rattle.net.specs.declared.sides.Side.TheVariants.{Input, Output}
 use Rattle.net.proofs.BelowLaws.{below_true}
 use Rattle.net.proofs.ListLaws.{zeros-at, zeros_part, blank-zeros, listed_one, one_listed, none_listed}
 use Rattle.net.proofs.PlaceLaws.{count_none, total-zeros}

@@ -1,5 +1,5 @@
--- Laws of insertion: what one turn of the pass that moves each element up by one does, and the elements, the order and the
--- length after an insertion. Each goes along the list. Assumes nothing.
+-- Laws of insertion: the elements moved up by one behind the new one, and the elements, the order and the length after an
+-- insertion. Each goes along the list. Assumes nothing.
 use Prim.Native.Nat.{ℕ, zero, suc, ◌+◌, ◌-◌, ◌<◌, ◌≤◌}
 use native.Mathlib.Nat.{le_refl}
 use native.Mathlib.Numerals.{add-one}
@@ -7,28 +7,15 @@ use native.Mathlib.Decide.{dec_lt}
 use native.Mathlib.Omega.{arith}
 use mathlib.Core.Path.{◌≡◌, refl, sym, ap, ◌∙◌}
 use mathlib.Core.Bool.{Bool, true, false, ◌||◌, or_comm, or_assoc}
-use mathlib.Core.List.{List, [], ◌∷◌, ◌++◌, append_assoc, append-nil}
+use mathlib.Core.List.{List, [], ◌∷◌, ◌++◌, append_assoc}
 use lib.Dec.{eqb}
 use lib.ListN.{length, take, drop, get_or, set, drop_of_length-le, length-drop, length-append}
-use lib.Seq.{length-take-le, take_all, take-take, take-add, drop-cons, drop-drop, take-suc-set, drop-set-lt}
+use lib.Seq.{length-take-le, take-take, take-add, drop-cons, drop-drop, take-suc, set-append_seam}
 use borrow.Author.Tests.{eqb-false, lt-ltb, le-ltb}
 use Rattle.obligations.proofs.BoolLaws.{or_neither}
+use Rattle.std.specs.List.{copy_within}
 use Rattle.net.specs.Lists.{listed, place_in, insert_at, insert, splice, ascends_above}
 use Rattle.net.proofs.ListLaws.{length_part, drop-take, ascends_head, ascends_tail}
-
--- ---- the pass over a list of n places, at place i with c carried
-
-pub shift-next : (p : List ℕ) (i n c : ℕ) → i < length p → i < n
-    → take i p ++ take (n - i) (c ∷ drop i p) ≡ take (i + 1) (set p i c) ++ take (n - (i + 1)) (get_or p i 0 ∷ drop (i + 1) (set p i c))
-shift-next p i n c h k =
-    let e : n - i ≡ suc (n - suc i) = omega arith in
-    let d : drop (suc i) (set p i c) ≡ drop (suc i) p = drop-set-lt (suc i) p i c (omega arith) in
-    rw (add-one, take-suc-set p i c h, d, e, drop-cons p i 0 h, append_assoc)
-
-pub shift-end : (p : List ℕ) (i n c : ℕ) → length p ≡ n → i ≡ n → p ≡ take i p ++ take (n - i) (c ∷ drop i p)
-shift-end p i n c l e =
-    let z : n - n ≡ 0 = omega arith in
-    rw (e, z, take_all n p (omega arith), append-nil)
 
 -- ---- the place of an element, from place i of a list on
 
@@ -100,15 +87,17 @@ ascends-insert p m (x ∷ xs) k h d =
           rw (le-ltb x m (omega arith), lt-ltb p m k, lt-ltb m x (omega arith)) t
     ]
 
--- a part of a list, from place i up to the free place `to`, moved up by one behind x
-pub shift_part : (l part : List ℕ) (i to x : ℕ) → i ≤ to → to < length l
-    → part ≡ take (length (take (to + 1 - i) (drop i l))) (x ∷ take (to + 1 - i) (drop i l))
-    → take i l ++ (part ++ drop (to + 1 - i) (drop i l)) ≡ splice l i (x ∷ take (to - i) (drop i l))
-shift_part l part i to x h k q =
-    let e : to + 1 - i ≡ suc (to - i) = omega arith in
-    let n : length (take (suc (to - i)) (drop i l)) ≡ suc (to - i) = length_part l i (suc (to - i)) (omega arith) in
-    let w : length (take (to - i) (drop i l)) ≡ to - i = length_part l i (to - i) (omega arith) in
-    rw (q, e, n, take-take (to - i) (suc (to - i)) (drop i l) (omega arith), w)
+-- the elements from place i up to `to` moved behind x
+pub moved_splice : (l : List ℕ) (i to x : ℕ) → i ≤ to → to < length l → set (copy_within l i to (i + 1)) i x ≡ splice l i (x ∷ take (to - i) (drop i l))
+moved_splice l i to x h k =
+    let mid = take (to - i) (drop i l) in
+    let tail = drop (i + 1 + (to - i)) l in
+    let n : length (take i l) ≡ i = length-take-le i l (omega arith) in
+    let w : length mid ≡ to - i = length_part l i (to - i) (omega arith) in
+    let q : i + 1 + (to - i) ≡ i + suc (to - i) = omega arith in
+    let seam : set (take i l ++ (get_or l i 0 ∷ (mid ++ tail))) i x ≡ take i l ++ (x ∷ (mid ++ tail)) = rw n at (set-append_seam (take i l) (get_or l i 0) (mid ++ tail) x) in
+    let front : (take (i + 1) l ++ mid) ++ tail ≡ take i l ++ (get_or l i 0 ∷ (mid ++ tail)) = rw (append_assoc (take (i + 1) l) mid tail, add-one, take-suc l i 0 (omega arith), append_assoc (take i l) (get_or l i 0 ∷ []) _) in
+    ap (λ (p : List ℕ). set p i x) front ∙ seam ∙ rw (w, q, drop-drop (suc (to - i)) i l)
 
 -- an insertion at place i of the n places from s on, said of the whole list
 pub splice-insert : (l : List ℕ) (s n i x : ℕ) → i ≤ n → s + n < length l

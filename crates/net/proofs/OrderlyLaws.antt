@@ -15,12 +15,13 @@ use Rattle.obligations.specs.Limits.{activities}
 use Rattle.obligations.proofs.BoolLaws.{and_left, and_right, false-not-true}
 use Rattle.net.specs.Limits.{sets, places}
 use Rattle.net.specs.Lists.{listed, zeros, ascends_above}
-use Rattle.net.specs.Sides.{masks_of, lengths_of, counts_of, empty_at, block, sets_on, OnSide}
-use Rattle.net.specs.Inner.{Sides, OrderlySides}
+use Rattle.net.specs.Sides.{sides_of, masks_of, lengths_of, counts_of, empty_at, block, sets_on, OnSide}
+use Rattle.net.specs.Inner.{ArraysFit, OrderlySides}
 use Rattle.net.specs.Orderly.{block_ok, ends_ok, sides_ok, counts_ok, kind_ok, sides_sized, sized, orderly, SideOrderly, Orderly}
 use Rattle.net.specs.declared.Net.{Net}
-use Rattle.net.specs.declared.Side.{Side}
-use Rattle.net.specs.declared.Side.TheVariants.{Input, Output}
+use Rattle.net.specs.declared.sides.Side.{Side}
+use Rattle.net.specs.declared.sides.Sides.{Sides}
+use Rattle.net.specs.declared.sides.Side.TheVariants.{Input, Output}
 use Rattle.net.proofs.BelowLaws.{below_true}
 use Rattle.net.proofs.ListLaws.{none_listed, ascends-at, at-ascends, ascends-not-listed, zeros-at, at_zeros}
 use Rattle.net.proofs.SideLaws.{OrderlyCounts, past-zero, zero-past, counts_past, past_counts, block_at, length-block, length-side, block-side, side-at, side_beyond, side_at_most, empty_side_ok, plain_side_ok, side_just_empty, sides_of_orderly}
@@ -45,7 +46,7 @@ facts_ends start end h k d = rw (lt-ltb start activities h, lt-ltb end activitie
 
 module _ (net : Net) (h : orderly net ≡ true) where
   both : Bool
-  both = kind_ok net.inputs net.input_len net.input_counts net.start && kind_ok net.outputs net.output_len net.output_counts net.end
+  both = kind_ok net.inputs net.start && kind_ok net.outputs net.end
 
   orderly_sized : sized net ≡ true
   unfolding orderly both
@@ -61,10 +62,10 @@ module _ (net : Net) (h : orderly net ≡ true) where
   orderly_both : both ≡ true
   orderly_both = and_right (ends_ok net.start net.end) both beside_size
 
-  orderly_kind : (side : Side) → kind_ok (masks_of net side) (lengths_of net side) (counts_of net side) (empty_at net side) ≡ true
+  orderly_kind : (side : Side) → kind_ok (sides_of net side) (empty_at net side) ≡ true
   unfolding both
-  orderly_kind Input = and_left _ (kind_ok net.outputs net.output_len net.output_counts net.end) orderly_both
-  orderly_kind Output = and_right (kind_ok net.inputs net.input_len net.input_counts net.start) _ orderly_both
+  orderly_kind Input = and_left _ (kind_ok net.outputs net.end) orderly_both
+  orderly_kind Output = and_right (kind_ok net.inputs net.start) _ orderly_both
 
   orderly_oks : (side : Side) → sides_ok (masks_of net side) (lengths_of net side) (empty_at net side) ≡ true
   unfolding kind_ok
@@ -74,10 +75,10 @@ module _ (net : Net) (h : orderly net ≡ true) where
   unfolding kind_ok
   counts_oks side = and_right (sides_ok (masks_of net side) (lengths_of net side) (empty_at net side)) (counts_ok (counts_of net side) (lengths_of net side)) (orderly_kind side)
 
-  side_sized : (side : Side) → sides_sized (masks_of net side) (lengths_of net side) (counts_of net side) ≡ true
+  side_sized : (side : Side) → sides_sized (sides_of net side) ≡ true
   unfolding sized
-  side_sized Input = and_left _ (sides_sized net.outputs net.output_len net.output_counts) orderly_sized
-  side_sized Output = and_right (sides_sized net.inputs net.input_len net.input_counts) _ orderly_sized
+  side_sized Input = and_left _ (sides_sized net.outputs) orderly_sized
+  side_sized Output = and_right (sides_sized net.inputs) _ orderly_sized
 
   masks_long : (side : Side) → length (masks_of net side) ≡ places
   masks_long side = eqb-true _ _ (and_left (eqb (length (masks_of net side)) places) (eqb (length (lengths_of net side)) activities && eqb (length (counts_of net side)) places) (side_sized side))
@@ -97,7 +98,7 @@ module _ (net : Net) (h : orderly net ≡ true) where
   pub orderly_sides : (side : Side) → OrderlySides (masks_of net side) (lengths_of net side) (empty_at net side)
   orderly_sides side = record { masks_long = masks_long side; lengths_long = lengths_long side; all_ok = orderly_oks side }
 
-  pub orderly_arrays : (side : Side) → Sides (masks_of net side) (lengths_of net side)
+  pub orderly_arrays : (side : Side) → ArraysFit (masks_of net side) (lengths_of net side)
   orderly_arrays side = sides_of_orderly (masks_of net side) (lengths_of net side) (empty_at net side) (orderly_sides side)
 
   pub orderly_at_most : (side : Side) (a : ℕ) → a < activities → get_or (lengths_of net side) a 0 ≤ sets
@@ -121,18 +122,40 @@ pub parts_orderly : (net : Net) → ends_ok net.start net.end ≡ true → ((sid
 unfolding orderly sized kind_ok
 parts_orderly net e o c =
     rw (
-      eq-eqb (length net.inputs) places (o Input).masks_long,
-      eq-eqb (length net.outputs) places (o Output).masks_long,
-      eq-eqb (length net.input_len) activities (o Input).lengths_long,
-      eq-eqb (length net.output_len) activities (o Output).lengths_long,
-      eq-eqb (length net.input_counts) places (c Input).counts_long,
-      eq-eqb (length net.output_counts) places (c Output).counts_long,
+      eq-eqb (length net.inputs.masks) places (o Input).masks_long,
+      eq-eqb (length net.outputs.masks) places (o Output).masks_long,
+      eq-eqb (length net.inputs.lengths) activities (o Input).lengths_long,
+      eq-eqb (length net.outputs.lengths) activities (o Output).lengths_long,
+      eq-eqb (length net.inputs.counts) places (c Input).counts_long,
+      eq-eqb (length net.outputs.counts) places (c Output).counts_long,
       e,
       (o Input).all_ok,
       (o Output).all_ok,
       (c Input).all_zero,
       (c Output).all_zero,
     )
+
+-- of a record whose arrays are as long as they have to be, the rest of the test
+pub sides_long : (sides : Sides) → length sides.masks ≡ places → length sides.lengths ≡ activities → length sides.counts ≡ places → sides_sized sides ≡ true
+sides_long sides m l c = rw (eq-eqb _ _ m, eq-eqb _ _ l, eq-eqb _ _ c)
+
+pub sized_orderly : (net : Net) → sides_sized net.inputs ≡ true → sides_sized net.outputs ≡ true
+    → orderly net ≡ (ends_ok net.start net.end && (kind_ok net.inputs net.start && kind_ok net.outputs net.end))
+unfolding orderly sized
+sized_orderly net i o = rw (i, o)
+
+-- a record fails by its ends or its input sides alone
+none_beside : (b : Bool) → (b && false) ≡ false
+none_beside true = refl
+none_beside false = refl
+
+pub bad_ends : (net : Net) → ends_ok net.start net.end ≡ false → orderly net ≡ false
+unfolding orderly
+bad_ends net e = rw e (none_beside (sized net))
+
+pub bad_inputs : (net : Net) → ends_ok net.start net.end ≡ true → kind_ok net.inputs net.start ≡ false → orderly net ≡ false
+unfolding orderly
+bad_inputs net e f = rw (e, f) (none_beside (sized net))
 
 -- ---- the test gives the facts
 

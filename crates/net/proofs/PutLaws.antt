@@ -6,6 +6,7 @@ use mathlib.Core.Path.{◌≡◌, refl, sym, ◌∙◌}
 use mathlib.Core.Bool.{Bool, true, false, cond}
 use mathlib.Core.Logic.{◌⊎◌, inl, inr, ⊎_elim, ◌↔◌}
 use mathlib.Core.List.{List}
+use Rattle.std.specs.Prelude.{Result}
 use lib.Dec.{ltb}
 use borrow.Author.Tests.{ltb-true, lt-ltb}
 use Rattle.obligations.specs.Limits.{activities}
@@ -13,11 +14,12 @@ use Rattle.obligations.proofs.BoolLaws.{true_or_false, false-not-true}
 use Rattle.net.specs.Refusals.{Says, refused, disorderly, no_activity}
 use Rattle.net.specs.Sides.{masks_of, lengths_of, counts_of, empty_at, count_of, OnSide, net_size}
 use Rattle.net.specs.Orderly.{orderly}
-use Rattle.net.specs.Put.{put_means, side_says, put_says, grows, grown_masks, grown_lengths, grown_counts, with_sides, with_set, put_masks, put_lengths, put_counts, put_gives, PutDone}
+use Rattle.net.specs.Put.{put_means, side_says, put_says, grows, grown_masks, grown_lengths, grown_counts, with_sides, with_set, put_masks, put_lengths, put_counts, put_gives, PutLeft}
 use Rattle.net.specs.Inner.{placed_means, CountedDone}
 use Rattle.net.specs.declared.Net.{Net}
-use Rattle.net.specs.declared.Side.{Side}
-use Rattle.net.specs.declared.PutAnswer.{PutAnswer}
+use Rattle.net.specs.declared.sides.Side.{Side}
+use Rattle.net.specs.declared.refusal.Refusal.{Refusal}
+use Rattle.net.specs.declared.refusal.Refused.{Refused}
 use Rattle.net.specs.declared.putting.Placed.{Placed}
 use Rattle.net.proofs.OrderlyLaws.{orderly_sides, orderly_counts}
 use Rattle.net.proofs.WithSidesLaws.{with-cond, with_start, with_end, with_sets, with_orderly, with_size}
@@ -47,9 +49,9 @@ module _ (net : Net) (side : Side) (a m : ℕ) where
       (with-cond net side (grows (side_says (masks_of net side) (lengths_of net side) (empty_at net side) a m)) (grown_masks (masks_of net side) (lengths_of net side) a m) (grown_lengths (lengths_of net side) a)
       (grown_counts (masks_of net side) (lengths_of net side) (counts_of net side) a m))
 
-  pub put_done : (p : Placed) (r : PutAnswer) (masks lengths counts : List ℕ) → orderly net ≡ true → a < activities → put_means r ≡ placed_means p
+  pub put_done : (p : Result Placed Refusal) (r : Result Bool Refused) (masks lengths counts : List ℕ) → orderly net ≡ true → a < activities → put_means r ≡ placed_means p
       → CountedDone (masks_of net side) (lengths_of net side) (counts_of net side) (empty_at net side) a m p masks lengths counts
-      → PutDone net side a m (record { answer = r; net = with_sides net side masks lengths counts })
+      → PutLeft net side a m r (with_sides net side masks lengths counts)
   put_done p r masks lengths counts o h e d = record {
     says = e ∙ d.side_done.says ∙ sym (put_says_side o h);
     gives = rw (d.side_done.masks_are, d.side_done.lengths_are, d.counts_are) (sym (put_gives_sides o h));

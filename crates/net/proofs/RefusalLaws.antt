@@ -23,7 +23,7 @@ use Rattle.net.specs.Fresh.{BadEnds, fresh_refusals, fresh_says}
 use Rattle.net.specs.Put.{Exceeds, Misplaced, put_refusals, misplaced, side_says, put_says}
 use Rattle.net.specs.Contained.{of_two, contained_refusals, contained, contained_says}
 use Rattle.net.specs.declared.Net.{Net}
-use Rattle.net.specs.declared.Side.{Side}
+use Rattle.net.specs.declared.sides.Side.{Side}
 use Rattle.net.proofs.SentenceLaws.{Told, passed, stopped, told_end, whole_link, chain_listed}
 use Rattle.net.proofs.OrderlyLaws.{ends_facts, facts_ends, orderly_facts, sets_length, orderly_at_most, orderly_sides}
 use Rattle.net.proofs.SideLaws.{plain_side_ok, side_just_empty}

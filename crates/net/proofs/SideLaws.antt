@@ -15,10 +15,10 @@ use Rattle.obligations.proofs.BoolLaws.{and_left, and_right}
 use Rattle.net.specs.Limits.{sets, places}
 use Rattle.net.specs.Lists.{listed, ascends_above, zeros}
 use Rattle.net.specs.Sides.{masks_of, lengths_of, block, side_in, OnSide, Masks}
-use Rattle.net.specs.Inner.{Sides, OrderlySides}
+use Rattle.net.specs.Inner.{ArraysFit, OrderlySides}
 use Rattle.net.specs.Orderly.{block_ok, sides_ok, counts_ok}
 use Rattle.net.specs.declared.Net.{Net}
-use Rattle.net.specs.declared.Side.{Side}
+use Rattle.net.specs.declared.sides.Side.{Side}
 use Rattle.net.proofs.BelowLaws.{below_at, below_true}
 use Rattle.net.proofs.PlaceLaws.{Ascending, above_ascending, one_ascends}
 use Rattle.net.proofs.ListLaws.{length_part, drop-take, zeros-at, at_zeros, listed_below}
@@ -137,8 +137,8 @@ pub past_counts : (counts lengths : List ℕ) → length counts ≡ places → (
 unfolding counts_ok
 past_counts counts lengths long f = record { counts_long = long; all_zero = below_true activities (λ b. zeros (drop (get_or lengths b 0) (block counts b))) f }
 
-pub counts_sides : (masks lengths counts : List ℕ) (empty : ℕ) → OrderlySides masks lengths empty → length counts ≡ places → Sides counts lengths
+pub counts_sides : (masks lengths counts : List ℕ) (empty : ℕ) → OrderlySides masks lengths empty → length counts ≡ places → ArraysFit counts lengths
 counts_sides masks lengths counts empty o long = record { masks_long = long; lengths_long = o.lengths_long; at_most = side_at_most masks lengths empty o }
 
-pub sides_of_orderly : (masks lengths : List ℕ) (empty : ℕ) → OrderlySides masks lengths empty → Sides masks lengths
+pub sides_of_orderly : (masks lengths : List ℕ) (empty : ℕ) → OrderlySides masks lengths empty → ArraysFit masks lengths
 sides_of_orderly masks lengths empty o = record { masks_long = o.masks_long; lengths_long = o.lengths_long; at_most = side_at_most masks lengths empty o }

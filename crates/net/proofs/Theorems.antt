@@ -17,7 +17,7 @@ use Rattle.net.specs.Put.{put_refusals, put_says, put_gives}
 use Rattle.net.specs.Contained.{Contained, contained, contained_says}
 use Rattle.net.specs.Statements.{PapersOrder, OrderlyTestRight, ContainedTestRight, FreshSaid, FreshHolds, FreshRefused, Put, PutSaid, PutHolds, PutRefusedSame, ContainedSaid, ContainedPassesOver, FreshListed, PutListed, ContainedListed}
 use Rattle.net.specs.declared.Net.{Net}
-use Rattle.net.specs.declared.Side.{Side}
+use Rattle.net.specs.declared.sides.Side.{Side}
 use Rattle.net.proofs.SentenceLaws.{Told, told-accepted, told-value}
 use Rattle.net.proofs.PlaceLaws.{count_absent}
 use Rattle.net.proofs.OrderlyLaws.{orderly_facts, facts_orderly}

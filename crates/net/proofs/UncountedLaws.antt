@@ -13,11 +13,11 @@ use Rattle.net.specs.Lists.{place_in, insert_at, zeros, blank}
 use Rattle.net.specs.Sides.{masks_of, lengths_of, counts_of, empty_at, net_of, uncounted, SameButCounts, side_in}
 use Rattle.net.specs.Inner.{OrderlySides}
 use Rattle.net.specs.Orderly.{orderly, Orderly}
-use Rattle.net.specs.Put.{side_says, put_says, grows, grown_counts, with_sides, put_masks, put_lengths, put_counts, put_gives}
-use Rattle.net.specs.Contained.{contained, contained_says}
+use Rattle.net.specs.Put.{side_says, put_says, grows, grown_counts, sides_in, with_sides, put_masks, put_lengths, put_counts, put_gives}
+use Rattle.net.specs.Contained.{sides_within, contained, contained_says}
 use Rattle.net.specs.declared.Net.{Net}
-use Rattle.net.specs.declared.Side.{Side}
-use Rattle.net.specs.declared.Side.TheVariants.{Input, Output}
+use Rattle.net.specs.declared.sides.Side.{Side}
+use Rattle.net.specs.declared.sides.Side.TheVariants.{Input, Output}
 use Rattle.net.proofs.ListLaws.{zeros-append, zeros_part, zeros-behind, zeros_more, zeros_blank, blank-zeros}
 use Rattle.net.proofs.OrderlyLaws.{orderly_ends, orderly_sides, parts_orderly, facts_orderly}
 use Rattle.net.proofs.GrownLaws.{length_grown_counts}
@@ -27,7 +27,7 @@ use Rattle.net.proofs.FreshLaws.{blank_counts}
 
 pub uncounted-orderly : (net : Net) → orderly net ≡ true → orderly (uncounted net) ≡ true
 uncounted-orderly net o =
-    parts_orderly (uncounted net) (orderly_ends net o) (elim [ Input ↦ orderly_sides net o Input | Output ↦ orderly_sides net o Output ]) (elim [ Input ↦ blank_counts net.input_len | Output ↦ blank_counts net.output_len ])
+    parts_orderly (uncounted net) (orderly_ends net o) (elim [ Input ↦ orderly_sides net o Input | Output ↦ orderly_sides net o Output ]) (elim [ Input ↦ blank_counts net.inputs.lengths | Output ↦ blank_counts net.outputs.lengths ])
 
 -- what says the same of an orderly net with counts 0 says the same of two that differ in their counts alone
 pub passes_over : {A : Type 0} (f : Net → A) → ((net : Net) → orderly net ≡ true → f (uncounted net) ≡ f net) → (x y : Net) → Orderly x → Orderly y → SameButCounts x y → f x ≡ f y
@@ -79,17 +79,17 @@ put-uncounted net side a m o e = elim (true_or_false (put_says net side a m).ok)
 ]
 
 -- a net with counts 0 and other arrays
-pub uncounted-with : (net : Net) → uncounted net ≡ net → (inputs input_len outputs output_len : List ℕ)
-    → record { start = net.start; end = net.end; inputs = inputs; outputs = outputs; input_len = input_len; output_len = output_len; input_counts = net.input_counts; output_counts = net.output_counts }
-    ≡ net_of net.start net.end inputs input_len outputs output_len
-uncounted-with net e inputs input_len outputs output_len = rw (← ap (λ (n : Net). n.input_counts) e, ← ap (λ (n : Net). n.output_counts) e)
+pub uncounted-with : (net : Net) → uncounted net ≡ net → (inputs input_lengths outputs output_lengths : List ℕ)
+    → record { start = net.start; end = net.end; inputs = sides_in inputs input_lengths net.inputs.counts; outputs = sides_in outputs output_lengths net.outputs.counts }
+    ≡ net_of net.start net.end inputs input_lengths outputs output_lengths
+uncounted-with net e inputs input_lengths outputs output_lengths = rw (← ap (λ (n : Net). n.inputs.counts) e, ← ap (λ (n : Net). n.outputs.counts) e)
 
 -- ---- containment
 
 pub first-uncounted : (other net : Net) → orderly net ≡ true → contained_says (uncounted net) other ≡ contained_says net other
-unfolding contained_says contained
+unfolding contained_says contained sides_within
 first-uncounted other net o = rw (o, uncounted-orderly net o)
 
 pub second-uncounted : (net other : Net) → orderly other ≡ true → contained_says net (uncounted other) ≡ contained_says net other
-unfolding contained_says contained
+unfolding contained_says contained sides_within
 second-uncounted net other o = rw (o, uncounted-orderly other o)

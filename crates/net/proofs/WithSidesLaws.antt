@@ -13,8 +13,8 @@ use Rattle.net.specs.Inner.{OrderlySides}
 use Rattle.net.specs.Orderly.{orderly}
 use Rattle.net.specs.Put.{with_sides}
 use Rattle.net.specs.declared.Net.{Net}
-use Rattle.net.specs.declared.Side.{Side}
-use Rattle.net.specs.declared.Side.TheVariants.{Input, Output}
+use Rattle.net.specs.declared.sides.Side.{Side}
+use Rattle.net.specs.declared.sides.Side.TheVariants.{Input, Output}
 use Rattle.net.proofs.SideLaws.{OrderlyCounts}
 use Rattle.net.proofs.OrderlyLaws.{orderly_ends, orderly_sides, orderly_counts, parts_orderly}
 

@@ -20,8 +20,8 @@ use Rattle.net.specs.Orderly.{orderly}
 use Rattle.net.specs.Put.{misplaced, side_says, put_says, put_gives}
 use Rattle.net.specs.Contained.{Contained}
 use Rattle.net.specs.declared.Net.{Net}
-use Rattle.net.specs.declared.Side.{Side}
-use Rattle.net.specs.declared.Side.TheVariants.{Input, Output}
+use Rattle.net.specs.declared.sides.Side.{Side}
+use Rattle.net.specs.declared.sides.Side.TheVariants.{Input, Output}
 use Rattle.net.proofs.ListLaws.{listed_one}
 use Rattle.net.proofs.InsertLaws.{length-insert, listed-insert, ascends-insert}
 use Rattle.net.proofs.SideLaws.{side-at, side_just_empty, plain_side_ok}

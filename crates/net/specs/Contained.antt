@@ -1,32 +1,31 @@
 -- Containment (01, "Learning and containment"): as a test that computes, and as facts in the paper's words.
-use Rattle.std.specs.Prelude.{ℕ, zero, suc, ◌<◌, ◌≡◌, Bool, cond, ◌&&◌, List, [], ◌∷◌, eqb}
+use Rattle.std.specs.Prelude.{ℕ, zero, suc, ◌<◌, ◌≡◌, Bool, cond, ◌&&◌, List, [], ◌∷◌, Result, eqb}
 use Rattle.obligations.specs.Limits.{activities}
-use Rattle.net.specs.Refusals.{Says, accepted, refused, disorderly}
+use Rattle.obligations.specs.Tests.{indicator}
+use Rattle.net.specs.Refusals.{Says, means, accepted, disorderly}
 use Rattle.net.specs.Sentences.{Sentence, first}
 use Rattle.net.specs.Chains.{unless_at}
 use Rattle.net.specs.Lists.{all_below, all_listed}
 use Rattle.net.specs.Sides.{side_in, OnSide}
 use Rattle.net.specs.Orderly.{Orderly, orderly}
 use Rattle.net.specs.declared.Net.{Net}
-use Rattle.net.specs.declared.Side.{Side}
-use Rattle.net.specs.declared.ContainedAnswer.{ContainedAnswer}
-use Rattle.net.specs.declared.ContainedAnswer.TheVariants.{Yes, No, Refused}
+use Rattle.net.specs.declared.sides.Side.{Side}
+use Rattle.net.specs.declared.sides.Sides.{Sides}
+use Rattle.net.specs.declared.refusal.Refused.{Refused}
 
 -- what each answer means: yes is 1 and no is 0
-abbrev pub contained_means : ContainedAnswer → Says
-contained_means Yes = accepted 1
-contained_means No = accepted 0
-contained_means (Refused n p) = refused n p
+abbrev pub contained_means : Result Bool Refused → Says
+contained_means answer = means indicator answer
 
 -- each side of one kind has its sets among the other net's
-unfoldable pub sides_within : List ℕ → List ℕ → List ℕ → List ℕ → Bool
-sides_within masks lengths masks' lengths' = all_below activities (λ a. all_listed (side_in masks lengths a) (side_in masks' lengths' a))
+unfoldable pub sides_within : Sides → Sides → Bool
+sides_within sides other = all_below activities (λ a. all_listed (side_in sides.masks sides.lengths a) (side_in other.masks other.lengths a))
 
 unfoldable pub contained : Net → Net → Bool
 contained net other =
     eqb net.start other.start
     && (eqb net.end other.end
-    && (sides_within net.inputs net.input_len other.inputs other.input_len && sides_within net.outputs net.output_len other.outputs other.output_len))
+    && (sides_within net.inputs other.inputs && sides_within net.outputs other.outputs))
 
 -- the first of the two nets, and the second
 abbrev pub of_two : Net → Net → ℕ → Net

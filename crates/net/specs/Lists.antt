@@ -1,5 +1,6 @@
 -- Lists of masks and of counts: tests that compute, and insertion into a list.
-use Rattle.std.specs.Prelude.{ℕ, zero, suc, ◌≤◌, ◌≡◌, Bool, true, false, cond, not, ◌&&◌, ◌||◌, List, [], ◌∷◌, ◌++◌, ltb, eqb, length, take, drop, replicate}
+use Rattle.std.specs.Prelude.{ℕ, zero, suc, ◌≤◌, ◌≡◌, Bool, true, cond, not, ◌&&◌, List, [], ◌∷◌, ◌++◌, ltb, eqb, length, take, drop, replicate}
+use Rattle.std.specs.List.{list_any, list_all}
 
 -- the test passes for each number below n
 unfoldable pub all_below : ℕ → (ℕ → Bool) → Bool
@@ -8,13 +9,11 @@ all_below (suc n) test = all_below n test && test n
 
 -- m is one of the list's elements
 unfoldable pub listed : ℕ → List ℕ → Bool
-listed m [] = false
-listed m (x ∷ xs) = eqb x m || listed m xs
+listed m xs = list_any (λ x. eqb x m) xs
 
 -- each element of the first list is one of the second's
 unfoldable pub all_listed : List ℕ → List ℕ → Bool
-all_listed [] ys = true
-all_listed (x ∷ xs) ys = listed x ys && all_listed xs ys
+all_listed xs ys = list_all (λ x. listed x ys) xs
 
 -- no element occurs twice
 unfoldable pub distinct : List ℕ → Bool
@@ -32,8 +31,7 @@ ascends_above p (x ∷ xs) = ltb p x && ascends_above x xs
 
 -- each element is zero
 unfoldable pub zeros : List ℕ → Bool
-zeros [] = true
-zeros (x ∷ xs) = eqb x 0 && zeros xs
+zeros xs = list_all (λ x. eqb x 0) xs
 
 -- the list with x in place i, and those from there on moved behind it
 unfoldable pub insert_at : ℕ → ℕ → List ℕ → List ℕ

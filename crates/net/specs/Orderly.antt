@@ -5,7 +5,8 @@ use Rattle.net.specs.Limits.{sets, places}
 use Rattle.net.specs.Lists.{all_below, listed, ascends_above, zeros}
 use Rattle.net.specs.Sides.{masks_of, lengths_of, counts_of, empty_at, block, sets_on}
 use Rattle.net.specs.declared.Net.{Net}
-use Rattle.net.specs.declared.Side.{Side}
+use Rattle.net.specs.declared.sides.Side.{Side}
+use Rattle.net.specs.declared.sides.Sides.{Sides}
 
 -- ---- the test
 
@@ -34,22 +35,22 @@ unfoldable pub counts_ok : List ℕ → List ℕ → Bool
 counts_ok counts lengths = all_below activities (λ a. zeros (drop (get_or lengths a 0) (block counts a)))
 
 -- the sides of one kind are as they have to be, and so are their counts
-unfoldable pub kind_ok : List ℕ → List ℕ → List ℕ → ℕ → Bool
-kind_ok masks lengths counts empty = sides_ok masks lengths empty && counts_ok counts lengths
+unfoldable pub kind_ok : Sides → ℕ → Bool
+kind_ok sides empty = sides_ok sides.masks sides.lengths empty && counts_ok sides.counts sides.lengths
 
 -- the lists of one kind of side are as long as the record's arrays
-abbrev pub sides_sized : List ℕ → List ℕ → List ℕ → Bool
-sides_sized masks lengths counts = eqb (length masks) places && (eqb (length lengths) activities && eqb (length counts) places)
+abbrev pub sides_sized : Sides → Bool
+sides_sized sides = eqb (length sides.masks) places && (eqb (length sides.lengths) activities && eqb (length sides.counts) places)
 
 -- all lists are, which holds of every record in a program
 unfoldable pub sized : Net → Bool
-sized net = sides_sized net.inputs net.input_len net.input_counts && sides_sized net.outputs net.output_len net.output_counts
+sized net = sides_sized net.inputs && sides_sized net.outputs
 
 unfoldable pub orderly : Net → Bool
 orderly net =
     sized net
     && (ends_ok net.start net.end
-    && (kind_ok net.inputs net.input_len net.input_counts net.start && kind_ok net.outputs net.output_len net.output_counts net.end))
+    && (kind_ok net.inputs net.start && kind_ok net.outputs net.end))
 
 -- ---- the facts
 

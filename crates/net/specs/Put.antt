@@ -1,9 +1,9 @@
 -- Put: one set added to one side (01, "The net and its sets").
-use Rattle.std.specs.Prelude.{ℕ, ◌*◌, ◌+◌, ◌≤◌, ◌≡◌, Bool, cond, not, ◌&&◌, ◌||◌, List, [], ◌∷◌, ◌⊎◌, eqb, ltb, get_or, set}
+use Rattle.std.specs.Prelude.{ℕ, ◌*◌, ◌+◌, ◌≤◌, ◌≡◌, Bool, cond, not, ◌&&◌, ◌||◌, List, [], ◌∷◌, ◌⊎◌, Result, eqb, ltb, get_or, set}
 use Rattle.obligations.specs.Limits.{activities}
 use Rattle.obligations.specs.Tests.{indicator}
 use Rattle.net.specs.Limits.{sets}
-use Rattle.net.specs.Refusals.{Says, accepted, refused, disorderly, no_activity, misplaced_set, full_side}
+use Rattle.net.specs.Refusals.{Says, means, accepted, disorderly, no_activity, misplaced_set, full_side}
 use Rattle.net.specs.Sentences.{Sentence, whole}
 use Rattle.net.specs.Chains.{unless}
 use Rattle.net.specs.Lists.{listed, place_in, insert_at, insert, splice, AtMost}
@@ -11,17 +11,15 @@ use Rattle.net.specs.Sides.{masks_of, lengths_of, counts_of, empty_at, side_in, 
 use Rattle.net.specs.Orderly.{orderly}
 use Rattle.net.specs.Common.{not_orderly}
 use Rattle.net.specs.declared.Net.{Net}
-use Rattle.net.specs.declared.Side.{Side}
-use Rattle.net.specs.declared.Side.TheVariants.{Input, Output}
-use Rattle.net.specs.declared.PutAnswer.{PutAnswer}
-use Rattle.net.specs.declared.PutAnswer.TheVariants.{New, Present, Refused}
-use Rattle.net.specs.declared.PutResult.{PutResult}
+use Rattle.net.specs.declared.sides.Side.{Side}
+use Rattle.net.specs.declared.sides.Side.TheVariants.{Input, Output}
+use Rattle.net.specs.declared.sides.Sides.{Sides}
+use Rattle.net.specs.declared.refusal.Refused.{Refused}
+use Rattle.net.specs.declared.Returned.{Returned}
 
 -- what each answer means: an accepted put's value is the number of new sets
-abbrev pub put_means : PutAnswer → Says
-put_means New = accepted 1
-put_means Present = accepted 0
-put_means (Refused n p) = refused n p
+abbrev pub put_means : Result Bool Refused → Says
+put_means answer = means indicator answer
 
 -- ---- the refusals
 
@@ -76,12 +74,16 @@ grown_lengths lengths a = set lengths a (get_or lengths a 0 + 1)
 abbrev pub grown_counts : List ℕ → List ℕ → List ℕ → ℕ → ℕ → List ℕ
 grown_counts masks lengths counts a m = splice counts (sets * a) (insert_at (place_in m (side_in masks lengths a)) 0 (side_in counts lengths a))
 
+-- the sides of these arrays
+abbrev pub sides_in : List ℕ → List ℕ → List ℕ → Sides
+sides_in masks lengths counts = record { masks = masks; lengths = lengths; counts = counts }
+
 -- the net with other arrays for one kind of side
 abbrev pub with_sides : Net → Side → List ℕ → List ℕ → List ℕ → Net
 with_sides net Input masks lengths counts =
-    record { start = net.start; end = net.end; inputs = masks; outputs = net.outputs; input_len = lengths; output_len = net.output_len; input_counts = counts; output_counts = net.output_counts }
+    record { start = net.start; end = net.end; inputs = sides_in masks lengths counts; outputs = net.outputs }
 with_sides net Output masks lengths counts =
-    record { start = net.start; end = net.end; inputs = net.inputs; outputs = masks; input_len = net.input_len; output_len = lengths; input_counts = net.input_counts; output_counts = counts }
+    record { start = net.start; end = net.end; inputs = net.inputs; outputs = sides_in masks lengths counts }
 
 -- the net with m added to activity a's side
 abbrev pub with_set : Net → Side → ℕ → ℕ → Net
@@ -103,6 +105,10 @@ put_counts masks lengths counts empty a m = cond (grows (side_says masks lengths
 unfoldable pub put_gives : Net → Side → ℕ → ℕ → Net
 put_gives net side a m = cond (grows (put_says net side a m)) (with_set net side a m) net
 
-pub record PutDone (net : Net) (side : Side) (a m : ℕ) (r : PutResult) : Type 0 where
-  pub says : put_means r.answer ≡ put_says net side a m
-  pub gives : r.net ≡ put_gives net side a m
+-- what put answers and leaves of the net
+pub record PutLeft (net : Net) (side : Side) (a m : ℕ) (answer : Result Bool Refused) (net' : Net) : Type 0 where
+  pub says : put_means answer ≡ put_says net side a m
+  pub gives : net' ≡ put_gives net side a m
+
+abbrev pub PutDone : Net → Side → ℕ → ℕ → Returned Bool → Type 0
+PutDone net side a m r = PutLeft net side a m r.answer r.net

@@ -1,5 +1,8 @@
 -- The papers' refusals by their numbers (01, "Refused, lowest number first"; 02), and what an answer says.
-use Rattle.std.specs.Prelude.{ℕ, Bool, true, false}
+use Rattle.std.specs.Prelude.{ℕ, Bool, true, false, Result, Ok, Err}
+use Rattle.net.specs.declared.refusal.Refusal.{Refusal}
+use Rattle.net.specs.declared.refusal.Refusal.TheVariants.{BadEnds, Disorderly, OutsideLimits, NoActivity, MisplacedSet, OnNoWalk, WrongEnds, MissingSet, WronglyEmpty, NotPossible, LeftOver, FullSide, LineForm, NumberForm, TextTooLong, NameUnanswered, CountTooHigh}
+use Rattle.net.specs.declared.refusal.Refused.{Refused}
 
 abbrev pub bad_ends : ℕ
 bad_ends = 1
@@ -65,3 +68,32 @@ refused n p = record { ok = false; refusal = n; place = p; value = 0 }
 
 abbrev pub accepted : ℕ → Says
 accepted v = record { ok = true; refusal = 0; place = 0; value = v }
+
+-- each refusal's number
+abbrev pub refusal_number : Refusal → ℕ
+refusal_number BadEnds = bad_ends
+refusal_number Disorderly = disorderly
+refusal_number OutsideLimits = outside_limits
+refusal_number NoActivity = no_activity
+refusal_number MisplacedSet = misplaced_set
+refusal_number OnNoWalk = on_no_walk
+refusal_number WrongEnds = wrong_ends
+refusal_number MissingSet = missing_set
+refusal_number WronglyEmpty = wrongly_empty
+refusal_number NotPossible = not_possible
+refusal_number LeftOver = left_over
+refusal_number FullSide = full_side
+refusal_number LineForm = line_form
+refusal_number NumberForm = number_form
+refusal_number TextTooLong = text_too_long
+refusal_number NameUnanswered = name_unanswered
+refusal_number CountTooHigh = count_too_high
+
+-- a refusal with its place
+abbrev pub refused_at : Refusal → ℕ → Refused
+refused_at r p = record { refusal = r; place = p }
+
+-- what an answer means, given the number that stands for each value
+abbrev pub means : {T : Type 0} → (T → ℕ) → Result T Refused → Says
+means value (Ok v) = accepted (value v)
+means value (Err r) = refused (refusal_number r.refusal) r.place

@@ -1,27 +1,30 @@
 -- The sides of a net (01, "The net and its sets"): each activity's list of sets of one kind. The sides of one kind are an
--- array of masks, 16 places for each activity, an array of list lengths, and an array of counts beside the masks (02, (viii)).
+-- array of masks, 16 places for each activity, an array of list lengths, and an array of counts beside the masks.
 use Rattle.std.specs.Prelude.{ℕ, ◌+◌, ◌*◌, ◌<◌, ◌≡◌, true, cond, List, [], ◌∷◌, eqb, take, drop, get_or}
 use Rattle.obligations.specs.Limits.{masks}
 use Rattle.obligations.specs.State.{total}
 use Rattle.net.specs.Limits.{sets, places}
 use Rattle.net.specs.Lists.{listed, place_in, blank}
 use Rattle.net.specs.declared.Net.{Net}
-use Rattle.net.specs.declared.Side.{Side}
-use Rattle.net.specs.declared.Side.TheVariants.{Input, Output}
+use Rattle.net.specs.declared.sides.Side.{Side}
+use Rattle.net.specs.declared.sides.Side.TheVariants.{Input, Output}
+use Rattle.net.specs.declared.sides.Sides.{Sides}
+
+-- all sides of one kind
+abbrev pub sides_of : Net → Side → Sides
+sides_of net Input = net.inputs
+sides_of net Output = net.outputs
 
 -- all masks of one kind, and all list lengths
 abbrev pub masks_of : Net → Side → List ℕ
-masks_of net Input = net.inputs
-masks_of net Output = net.outputs
+masks_of net side = (sides_of net side).masks
 
 abbrev pub lengths_of : Net → Side → List ℕ
-lengths_of net Input = net.input_len
-lengths_of net Output = net.output_len
+lengths_of net side = (sides_of net side).lengths
 
 -- the counts of uses, at the places of the masks (02, (viii))
 abbrev pub counts_of : Net → Side → List ℕ
-counts_of net Input = net.input_counts
-counts_of net Output = net.output_counts
+counts_of net side = (sides_of net side).counts
 
 -- the other kind of side
 abbrev pub opposite : Side → Side
@@ -33,14 +36,18 @@ abbrev pub empty_at : Net → Side → ℕ
 empty_at net Input = net.start
 empty_at net Output = net.end
 
+-- the sides with these masks and lengths, and counts 0
+abbrev pub uncounted_sides : List ℕ → List ℕ → Sides
+uncounted_sides masks lengths = record { masks = masks; lengths = lengths; counts = blank places }
+
 -- the net of these ends and arrays, with counts 0
 abbrev pub net_of : ℕ → ℕ → List ℕ → List ℕ → List ℕ → List ℕ → Net
-net_of start end inputs input_len outputs output_len =
-    record { start = start; end = end; inputs = inputs; outputs = outputs; input_len = input_len; output_len = output_len; input_counts = blank places; output_counts = blank places }
+net_of start end inputs input_lengths outputs output_lengths =
+    record { start = start; end = end; inputs = uncounted_sides inputs input_lengths; outputs = uncounted_sides outputs output_lengths }
 
 -- a net with counts 0 in place of its own
 abbrev pub uncounted : Net → Net
-uncounted net = net_of net.start net.end net.inputs net.input_len net.outputs net.output_len
+uncounted net = net_of net.start net.end net.inputs.masks net.inputs.lengths net.outputs.masks net.outputs.lengths
 
 -- two nets differ in their counts alone, or not at all
 abbrev pub SameButCounts : Net → Net → Type 0
@@ -89,4 +96,4 @@ Masks net = (side : Side) (i : ℕ) → get_or (masks_of net side) i 0 < masks
 
 -- how many sets a net holds
 abbrev pub net_size : Net → ℕ
-net_size net = total net.input_len + total net.output_len
+net_size net = total net.inputs.lengths + total net.outputs.lengths

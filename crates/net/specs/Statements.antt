@@ -1,19 +1,16 @@
 -- What is proved of the definitions (01, "The net and its sets", "Learning and containment"): the order of refusals is that of their
 -- numbers, but for 19 (02, (iv)); the tests are the facts that the paper states, a fresh net holds two empty sets and nothing else,
 -- put adds one set to one side and nothing else, and containment passes over the counts. The proofs are in proofs/Theorems.antt.
-use Rattle.std.specs.Prelude.{ℕ, ◌+◌, ◌<◌, ◌≡◌, true, ◌↔◌, ◌⊎◌}
+use Rattle.std.specs.Prelude.{ℕ, ◌+◌, ◌<◌, ◌≡◌, true, false, Ok, ◌↔◌, ◌⊎◌}
 use Rattle.net.specs.Sides.{empty_at, SameButCounts, count_of, OnSide, net_size}
-use Rattle.net.specs.Refusals.{on_no_walk, wrong_ends, name_unanswered}
+use Rattle.net.specs.Refusals.{refused, on_no_walk, wrong_ends, name_unanswered}
 use Rattle.net.specs.Sentences.{order_of, NoneHolds, AsListed}
 use Rattle.net.specs.Orderly.{Orderly, orderly}
 use Rattle.net.specs.Fresh.{fresh_means, fresh_net, fresh_refusals, fresh_says, fresh_gives}
 use Rattle.net.specs.Put.{put_means, put_refusals, put_says, put_gives}
 use Rattle.net.specs.Contained.{Contained, contained, contained_means, contained_refusals, contained_says}
 use Rattle.net.specs.declared.Net.{Net}
-use Rattle.net.specs.declared.Side.{Side}
-use Rattle.net.specs.declared.FreshAnswer.TheVariants as fresh
-use Rattle.net.specs.declared.PutAnswer.TheVariants as put
-use Rattle.net.specs.declared.ContainedAnswer.TheVariants as answer
+use Rattle.net.specs.declared.sides.Side.{Side}
 
 -- the papers' order is that of the numbers, but for 19, which comes after 6 and before 7
 pub record PapersOrder : Type 0 where
@@ -39,14 +36,14 @@ pub record Fresh (start end : ℕ) (net : Net) : Type 0 where
 
 -- fresh is accepted exactly if no refusal holds, and then returns such a net
 abbrev pub FreshSaid : Type 0
-FreshSaid = (start end : ℕ) → (fresh_says start end ≡ fresh_means fresh.Made) ↔ NoneHolds (fresh_refusals start end)
+FreshSaid = (start end : ℕ) → (fresh_says start end ≡ fresh_means (Ok tt)) ↔ NoneHolds (fresh_refusals start end)
 
 abbrev pub FreshHolds : Type 0
-FreshHolds = (start end : ℕ) → fresh_says start end ≡ fresh_means fresh.Made → Fresh start end (fresh_gives start end)
+FreshHolds = (start end : ℕ) → fresh_says start end ≡ fresh_means (Ok tt) → Fresh start end (fresh_gives start end)
 
 -- a refused fresh returns the fresh net of 0 and 1
 abbrev pub FreshRefused : Type 0
-FreshRefused = (start end number place : ℕ) → fresh_says start end ≡ fresh_means (fresh.Refused number place) → fresh_gives start end ≡ fresh_net 0 1
+FreshRefused = (start end number place : ℕ) → fresh_says start end ≡ refused number place → fresh_gives start end ≡ fresh_net 0 1
 
 -- the second net is the first with m on activity a's side, and nothing else; the value says whether it was new. No count changes,
 -- and a new set has count 0
@@ -63,25 +60,25 @@ pub record Put (net : Net) (side : Side) (a m new : ℕ) (after : Net) : Type 0 
 abbrev pub PutSaid : Type 0
 PutSaid =
     (net : Net) (side : Side) (a m : ℕ)
-    → ((put_says net side a m ≡ put_means put.New) ↔ (NoneHolds (put_refusals net side a m) × (OnSide net side a m → ⊥)))
-    × ((put_says net side a m ≡ put_means put.Present) ↔ (NoneHolds (put_refusals net side a m) × OnSide net side a m))
+    → ((put_says net side a m ≡ put_means (Ok true)) ↔ (NoneHolds (put_refusals net side a m) × (OnSide net side a m → ⊥)))
+    × ((put_says net side a m ≡ put_means (Ok false)) ↔ (NoneHolds (put_refusals net side a m) × OnSide net side a m))
 
 abbrev pub PutHolds : Type 0
 PutHolds =
     (net : Net) (side : Side) (a m : ℕ)
-    → (put_says net side a m ≡ put_means put.New → Put net side a m 1 (put_gives net side a m))
-    × (put_says net side a m ≡ put_means put.Present → Put net side a m 0 (put_gives net side a m))
+    → (put_says net side a m ≡ put_means (Ok true) → Put net side a m 1 (put_gives net side a m))
+    × (put_says net side a m ≡ put_means (Ok false) → Put net side a m 0 (put_gives net side a m))
 
 -- a refused put returns the very record given
 abbrev pub PutRefusedSame : Type 0
-PutRefusedSame = (net : Net) (side : Side) (a m number place : ℕ) → put_says net side a m ≡ put_means (put.Refused number place) → put_gives net side a m ≡ net
+PutRefusedSame = (net : Net) (side : Side) (a m number place : ℕ) → put_says net side a m ≡ refused number place → put_gives net side a m ≡ net
 
 -- containment is answered yes or no by the paper's sentence, of two orderly records
 abbrev pub ContainedSaid : Type 0
 ContainedSaid =
     (net other : Net)
-    → ((contained_says net other ≡ contained_means answer.Yes) ↔ (Orderly net × Orderly other × Contained net other))
-    × ((contained_says net other ≡ contained_means answer.No) ↔ (Orderly net × Orderly other × (Contained net other → ⊥)))
+    → ((contained_says net other ≡ contained_means (Ok true)) ↔ (Orderly net × Orderly other × Contained net other))
+    × ((contained_says net other ≡ contained_means (Ok false)) ↔ (Orderly net × Orderly other × (Contained net other → ⊥)))
 
 -- containment passes over the counts of orderly records (02, (viii))
 abbrev pub ContainedPassesOver : Type 0
@@ -92,10 +89,10 @@ ContainedPassesOver =
 -- ---- the refusals: each call is refused exactly as its sentences are listed, and else accepted
 
 abbrev pub FreshListed : Type 0
-FreshListed = (start end : ℕ) → AsListed (λ n p. fresh_means (fresh.Refused n p)) (fresh_refusals start end) (fresh_says start end)
+FreshListed = (start end : ℕ) → AsListed refused (fresh_refusals start end) (fresh_says start end)
 
 abbrev pub PutListed : Type 0
-PutListed = (net : Net) (side : Side) (a m : ℕ) → AsListed (λ n p. put_means (put.Refused n p)) (put_refusals net side a m) (put_says net side a m)
+PutListed = (net : Net) (side : Side) (a m : ℕ) → AsListed refused (put_refusals net side a m) (put_says net side a m)
 
 abbrev pub ContainedListed : Type 0
-ContainedListed = (net other : Net) → AsListed (λ n p. contained_means (answer.Refused n p)) (contained_refusals net other) (contained_says net other)
+ContainedListed = (net other : Net) → AsListed refused (contained_refusals net other) (contained_says net other)

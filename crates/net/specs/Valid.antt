@@ -3,7 +3,7 @@ use Rattle.std.specs.Prelude.{ℕ, ◌<◌, List, length}
 use Rattle.obligations.specs.Sequence.{Binding, at, WellFormed}
 use Rattle.net.specs.Sides.{OnSide}
 use Rattle.net.specs.declared.Net.{Net}
-use Rattle.net.specs.declared.Side.TheVariants.{Input, Output}
+use Rattle.net.specs.declared.sides.Side.TheVariants.{Input, Output}
 
 -- i is the number of positions before the one spoken of
 pub record Valid (net : Net) (s : List Binding) : Type 0 where

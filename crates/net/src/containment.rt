@@ -1,79 +1,47 @@
-// Containment of nets (paper 01, "Learning and containment").
+// Containment of nets.
 
 ghost use Rattle.std.specs.Prelude.{◌≡◌, true};
-ghost use Rattle.net.specs.Inner.{Sides};
+ghost use Rattle.net.specs.Inner.{SidesFit};
 ghost use Rattle.net.specs.Orderly.{orderly};
 ghost use Rattle.net.specs.Contained.{sides_within, contained, contained_means, contained_says};
 
 use crate::orderly::is_orderly;
-use crate::{ContainedAnswer, Net, SETS, lists, refusal};
+use crate::{Net, Refusal, Refused, Sides, lists};
 use obligations::ACTIVITIES;
 
 // Whether the net is contained in the other.
-pub fn contained(net: Net, other: Net) -> ContainedAnswer
+pub fn contained(net: Net, other: Net) -> Result<bool, Refused>
     ensures { contained_means result ≡ contained_says net other }
 {
-    if !is_orderly(net) {
-        return ContainedAnswer::Refused {
-            number: refusal::DISORDERLY,
-            place: 1,
-        };
+    if !is_orderly(&net) {
+        return Err(Refusal::Disorderly.at(1));
     }
-    if !is_orderly(other) {
-        return ContainedAnswer::Refused {
-            number: refusal::DISORDERLY,
-            place: 2,
-        };
+    if !is_orderly(&other) {
+        return Err(Refusal::Disorderly.at(2));
     }
-    if is_contained(net, other) {
-        ContainedAnswer::Yes
-    } else {
-        ContainedAnswer::No
-    }
+    Ok(is_contained(&net, &other))
 }
 
 // Whether start and end of two orderly nets agree and each side's sets are among the other's.
-fn is_contained(net: Net, other: Net) -> bool
-    requires { (orderly net ≡ true) × (orderly other ≡ true) }
-    ensures { result ≡ contained net other }
+fn is_contained<'a>(net: &'a Net, other: &'a Net) -> bool
+    requires { (orderly net.now ≡ true) × (orderly other.now ≡ true) }
+    ensures { result ≡ contained net.now other.now }
 {
-    if net.start != other.start {
+    if net.start != other.start || net.end != other.end {
         return false;
     }
-    if net.end != other.end {
-        return false;
-    }
-    if !sides_within(&net.inputs, &net.input_len, &other.inputs, &other.input_len) {
-        return false;
-    }
-    sides_within(
-        &net.outputs,
-        &net.output_len,
-        &other.outputs,
-        &other.output_len,
-    )
+    sides_within(&net.inputs, &other.inputs) && sides_within(&net.outputs, &other.outputs)
 }
 
 // Whether each side of one kind has its sets among those of the other net's.
-fn sides_within<'a>(
-    masks: &'a [u32],
-    lengths: &'a [u32],
-    other_masks: &'a [u32],
-    other_lengths: &'a [u32],
-) -> bool
-    requires sides { Sides masks.now lengths.now }
-    requires sides_2 { Sides other_masks.now other_lengths.now }
-    ensures { result ≡ sides_within masks.now lengths.now other_masks.now other_lengths.now }
+fn sides_within<'a>(sides: &'a Sides, other: &'a Sides) -> bool
+    requires { SidesFit sides.now × SidesFit other.now }
+    ensures { result ≡ sides_within sides.now other.now }
 {
-    let mut a: u32 = 0;
-    while a < ACTIVITIES {
-        let from = (SETS * a) as usize;
-        let to = from + lengths[a as usize] as usize;
-        let other_to = from + other_lengths[a as usize] as usize;
-        if !lists::all_listed(&masks[from..to], &other_masks[from..other_to]) {
+    for a in 0..ACTIVITIES {
+        if !lists::all_listed(sides.sets(a), other.sets(a)) {
             return false;
         }
-        a += 1;
     }
     true
 }

@@ -1,32 +1,23 @@
 // Lists of masks and of counts, lent as slices.
 
-ghost use Rattle.std.specs.Prelude.{◌≡◌, ◌∷◌, length, take};
+ghost use Rattle.std.specs.Prelude.{◌≡◌};
 ghost use Rattle.net.specs.Lists.{listed, all_listed, ascends_above, zeros, place_in};
 
 // Whether m is one of the list's elements.
 pub fn is_listed(list: &[u32], m: u32) -> bool
     ensures { result ≡ listed m list.now }
 {
-    let mut i: usize = 0;
-    while i < list.len() {
-        if list[i] == m {
-            return true;
-        }
-        i += 1;
-    }
-    false
+    list.contains(&m)
 }
 
 // Whether each element of the list is one of the other's.
 pub fn all_listed(list: &[u32], other: &[u32]) -> bool
     ensures { result ≡ all_listed list.now other.now }
 {
-    let mut i: usize = 0;
-    while i < list.len() {
-        if !is_listed(other, list[i]) {
+    for m in list {
+        if !is_listed(other, *m) {
             return false;
         }
-        i += 1;
     }
     true
 }
@@ -36,14 +27,11 @@ pub fn ascends(list: &[u32]) -> bool
     ensures { result ≡ ascends_above 0 list.now }
 {
     let mut last: u32 = 0;
-    let mut i: usize = 0;
-    while i < list.len() {
-        let m = list[i];
-        if m <= last {
+    for m in list {
+        if *m <= last {
             return false;
         }
-        last = m;
-        i += 1;
+        last = *m;
     }
     true
 }
@@ -54,10 +42,8 @@ pub fn all_zero(list: &[u32]) -> bool
     ensures { result ≡ zeros list.now }
 {
     let mut bits: u32 = 0;
-    let mut i: usize = 0;
-    while i < list.len() {
-        bits |= list[i];
-        i += 1;
+    for m in list {
+        bits |= *m;
     }
     bits == 0
 }
@@ -66,26 +52,10 @@ pub fn all_zero(list: &[u32]) -> bool
 pub fn place_in(list: &[u32], m: u32) -> usize
     ensures { result ≡ place_in m list.now }
 {
-    let mut i: usize = 0;
-    while i < list.len() {
-        if list[i] >= m {
+    for (i, x) in list.iter().enumerate() {
+        if *x >= m {
             return i;
         }
-        i += 1;
     }
-    i
-}
-
-// Puts x first and moves each element up by one; the last is lost.
-pub fn shift(list: &mut [u32], x: u32)
-    ensures { list.new ≡ take (length list.old) (x ∷ list.old) }
-{
-    let mut carry = x;
-    let mut i: usize = 0;
-    while i < list.len() {
-        let y = list[i];
-        list[i] = carry;
-        carry = y;
-        i += 1;
-    }
+    list.len()
 }

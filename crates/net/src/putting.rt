@@ -1,180 +1,109 @@
-// Put: one set added to one side (paper 01, "The net and its sets").
+// Put: one set added to one side.
 
-ghost use Rattle.std.specs.Prelude.{◌≡◌, true, ◌&&◌, ◌+◌, ◌*◌, ◌-◌, ◌<◌, ◌≤◌, ◌∷◌, ltb, eqb, length, get_or, take, drop};
+ghost use Rattle.std.specs.Prelude.{◌≡◌, ◌&&◌, ◌+◌, ◌*◌, ◌-◌, ◌<◌, ◌≤◌, ◌∷◌, ltb, eqb, length, get_or, take, drop};
 ghost use Rattle.obligations.specs.Limits.{activities};
-ghost use Rattle.net.specs.Limits.{sets, places};
+ghost use Rattle.net.specs.Limits.{sets};
 ghost use Rattle.net.specs.Lists.{splice};
-ghost use Rattle.net.specs.Orderly.{orderly};
-ghost use Rattle.net.specs.Put.{put_means, misplaced, PutDone};
+ghost use Rattle.net.specs.Put.{misplaced, PutDone, PutLeft};
 ghost use Rattle.net.specs.Sides.{place_on};
-ghost use Rattle.net.specs.Inner.{Sides, OrderlySides, placed_means, SideDone, CountedDone};
+ghost use Rattle.net.specs.Inner.{SidesFit, OrderlySides, SideDone, CountedDone};
 
 use crate::orderly::is_orderly;
-use crate::{LISTS, Net, PLACES, PutAnswer, PutResult, SETS, Side, lists, refusal};
+use crate::{Net, Refusal, Refused, Returned, SETS, Side, Sides, lists};
 use obligations::ACTIVITIES;
 
-// What a put on one side did: the set's place among those of this kind of side, if it was new or was there, or the refusal.
+// Where a put on one side found its set's place, among those of this kind of side, and whether the set is new there.
 #[derive(Clone, Copy)]
-pub enum Placed {
-    New(usize),
-    Present(usize),
-    Refused { number: u32, place: u32 },
+pub struct Placed {
+    pub at: usize,
+    pub new: bool,
 }
 
 // Adds a set to one side of an activity and says whether it was new.
-pub fn put(net: Net, side: Side, activity: u32, set: u32) -> PutResult
+pub fn put(mut net: Net, side: Side, activity: u32, set: u32) -> Returned<bool>
     ensures { PutDone net side activity set result }
 {
-    if !is_orderly(net) {
-        let answer = PutAnswer::Refused {
-            number: refusal::DISORDERLY,
-            place: 0,
-        };
-        return PutResult {
-            answer: answer,
-            net: net,
-        };
-    }
-    if activity >= ACTIVITIES {
-        let answer = PutAnswer::Refused {
-            number: refusal::NO_ACTIVITY,
-            place: 0,
-        };
-        return PutResult {
-            answer: answer,
-            net: net,
-        };
-    }
-    put_orderly(net, side, activity, set)
+    let answer = put_in(&mut net, side, activity, set);
+    Returned { answer, net }
 }
 
-// Put of an activity's set into a net that was found orderly.
-fn put_orderly(mut net: Net, side: Side, a: u32, m: u32) -> PutResult
-    requires { (orderly net ≡ true) × (a < activities) }
-    ensures { PutDone net side a m result }
+// Put, on a net in place.
+fn put_in(net: &mut Net, side: Side, a: u32, m: u32) -> Result<bool, Refused>
+    ensures { PutLeft net.old side a m result net.new }
 {
-    match side {
+    if !is_orderly(net) {
+        return Err(Refusal::Disorderly.at(0));
+    }
+    if a >= ACTIVITIES {
+        return Err(Refusal::NoActivity.at(0));
+    }
+    let placed = match side {
         Side::Input => {
-            let mut masks = net.inputs;
-            let mut lengths = net.input_len;
-            let mut counts = net.input_counts;
-            let placed = put_counted(&mut masks, &mut lengths, &mut counts, net.start, a, m);
-            net.inputs = masks;
-            net.input_len = lengths;
-            net.input_counts = counts;
-            PutResult {
-                answer: put_answer(placed),
-                net: net,
-            }
+            let start = net.start;
+            put_counted(&mut net.inputs, start, a, m)?
         }
         Side::Output => {
-            let mut masks = net.outputs;
-            let mut lengths = net.output_len;
-            let mut counts = net.output_counts;
-            let placed = put_counted(&mut masks, &mut lengths, &mut counts, net.end, a, m);
-            net.outputs = masks;
-            net.output_len = lengths;
-            net.output_counts = counts;
-            PutResult {
-                answer: put_answer(placed),
-                net: net,
-            }
+            let end = net.end;
+            put_counted(&mut net.outputs, end, a, m)?
         }
-    }
+    };
+    Ok(placed.new)
 }
 
-// What put answers.
-fn put_answer(placed: Placed) -> PutAnswer
-    ensures { put_means result ≡ placed_means placed }
-{
-    match placed {
-        Placed::New(_) => PutAnswer::New,
-        Placed::Present(_) => PutAnswer::Present,
-        Placed::Refused { number, place } => PutAnswer::Refused {
-            number: number,
-            place: place,
-        },
-    }
-}
-
-// Puts m on activity a's side, in the arrays of the sides of one kind, and the counts move along with their sets: a new set
-// has count 0, and one that is there keeps its own.
-pub fn put_counted(
-    masks: &mut [u32; PLACES],
-    lengths: &mut [u32; LISTS],
-    counts: &mut [u32; PLACES],
-    empty: u32,
-    a: u32,
-    m: u32,
-) -> Placed
-    requires { OrderlySides masks.old lengths.old empty × (length counts.old ≡ places) × (a < activities) }
-    ensures { CountedDone masks.old lengths.old counts.old empty a m result masks.new lengths.new counts.new }
+// Puts m on activity a's side, and the counts move along with their sets: a new set has count 0, and one that is there keeps its
+// own.
+pub fn put_counted(sides: &mut Sides, empty: u32, a: u32, m: u32) -> Result<Placed, Refusal>
+    requires orderly { OrderlySides sides.old.masks sides.old.lengths empty }
+    requires activity { a < activities }
+    ensures { CountedDone sides.old.masks sides.old.lengths sides.old.counts empty a m result sides.new.masks sides.new.lengths sides.new.counts }
 {
     // Before the length grows.
-    let to = side_end(lengths, a);
-    let placed = put_side(masks, lengths, empty, a, m);
-    match placed {
-        Placed::New(at) => insert_at(counts, at, to, 0),
-        Placed::Present(_) => {}
-        Placed::Refused {
-            number: _,
-            place: _,
-        } => {}
+    let to = side_end(sides, a);
+    let placed = put_side(sides, empty, a, m)?;
+    if placed.new {
+        insert_at(&mut sides.counts, placed.at, to, 0);
     }
-    placed
+    Ok(placed)
 }
 
-// Puts m on activity a's side, in the arrays of the sides of one kind, where the side of `empty` holds just the empty set.
-pub fn put_side(
-    masks: &mut [u32; PLACES],
-    lengths: &mut [u32; LISTS],
-    empty: u32,
-    a: u32,
-    m: u32,
-) -> Placed
-    requires { OrderlySides masks.old lengths.old empty × (a < activities) }
-    ensures { SideDone masks.old lengths.old empty a m result masks.new lengths.new }
+// Puts m on activity a's side, where the side of `empty` holds just the empty set; the counts stay where they are.
+pub fn put_side(sides: &mut Sides, empty: u32, a: u32, m: u32) -> Result<Placed, Refusal>
+    requires orderly { OrderlySides sides.old.masks sides.old.lengths empty }
+    requires activity { a < activities }
+    ensures done { SideDone sides.old.masks sides.old.lengths empty a m result sides.new.masks sides.new.lengths }
+    ensures counts { sides.new.counts ≡ sides.old.counts }
 {
     if is_misplaced(empty, a, m) {
-        return Placed::Refused {
-            number: refusal::MISPLACED_SET,
-            place: 0,
-        };
+        return Err(Refusal::MisplacedSet);
     }
-    let to = side_end(lengths, a);
-    let at = place_on(masks, lengths, a, m);
-    if stands_at(masks, at, to, m) {
-        return Placed::Present(at);
+    let to = side_end(sides, a);
+    let at = place_on(sides, a, m);
+    if stands_at(&sides.masks, at, to, m) {
+        return Ok(Placed { at, new: false });
     }
-    let side = a as usize;
-    let n = lengths[side];
+    let n = sides.lengths[a as usize];
     if n == SETS {
-        return Placed::Refused {
-            number: refusal::FULL_SIDE,
-            place: 0,
-        };
+        return Err(Refusal::FullSide);
     }
-    insert_at(masks, at, to, m);
-    lengths[side] = n + 1;
-    Placed::New(at)
+    insert_at(&mut sides.masks, at, to, m);
+    sides.lengths[a as usize] = n + 1;
+    Ok(Placed { at, new: true })
 }
 
 // Where activity a's sets end, among the places of this kind of side.
-fn side_end(lengths: &[u32], a: u32) -> usize
-    requires { (a < activities) × (length lengths.now ≡ activities) × (get_or lengths.now a 0 ≤ sets) }
-    ensures { result ≡ sets * a + get_or lengths.now a 0 }
+fn side_end(sides: &Sides, a: u32) -> usize
+    requires { (a < activities) × (get_or sides.now.lengths a 0 ≤ sets) }
+    ensures { result ≡ sets * a + get_or sides.now.lengths a 0 }
 {
-    (SETS * a + lengths[a as usize]) as usize
+    (SETS * a + sides.lengths[a as usize]) as usize
 }
 
 // Where m stands on activity a's side, or would stand.
-fn place_on<'a>(masks: &'a [u32], lengths: &'a [u32], a: u32, m: u32) -> usize
-    requires { Sides masks.now lengths.now × (a < activities) }
-    ensures { result ≡ place_on masks.now lengths.now a m }
+fn place_on(sides: &Sides, a: u32, m: u32) -> usize
+    requires { SidesFit sides.now × (a < activities) }
+    ensures { result ≡ place_on sides.now.masks sides.now.lengths a m }
 {
-    let from = (SETS * a) as usize;
-    let to = side_end(lengths, a);
-    from + lists::place_in(&masks[from..to], m)
+    (SETS * a) as usize + lists::place_in(sides.sets(a), m)
 }
 
 // Whether m stands at a place, which is one of the side's if it is before `to`.
@@ -182,7 +111,7 @@ fn stands_at(masks: &[u32], at: usize, to: usize, m: u32) -> bool
     requires { to ≤ length masks.now }
     ensures { result ≡ (ltb at to && eqb (get_or masks.now at 0) m) }
 {
-    if at < to { masks[at] == m } else { false }
+    at < to && masks[at] == m
 }
 
 // Whether m is the empty set on a side that may not hold it, or another on the side that must hold only it.
@@ -197,5 +126,6 @@ fn insert_at(list: &mut [u32], at: usize, to: usize, x: u32)
     requires { (at ≤ to) × (to < length list.old) }
     ensures { list.new ≡ splice list.old at (x ∷ take (to - at) (drop at list.old)) }
 {
-    lists::shift(&mut list[at..to + 1], x);
+    list.copy_within(at..to, at + 1);
+    list[at] = x;
 }

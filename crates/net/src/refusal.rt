@@ -1,35 +1,72 @@
-// The numbers of the papers' refusals (01, "Refused, lowest number first"; 02), each named once.
+// Why a call refuses its input, and where.
 
-pub const BAD_ENDS: u32 = 1;
+use std::fmt;
 
-pub const DISORDERLY: u32 = 2;
+// The refusals, each with the number that callers print.
+#[derive(Clone, Copy, Debug, PartialEq, Eq)]
+pub enum Refusal {
+    BadEnds = 1,
+    Disorderly = 2,
+    OutsideLimits = 3,
+    NoActivity = 4,
+    MisplacedSet = 5,
+    OnNoWalk = 6,
+    WrongEnds = 7,
+    MissingSet = 8,
+    WronglyEmpty = 9,
+    NotPossible = 10,
+    LeftOver = 11,
+    FullSide = 12,
+    LineForm = 13,
+    NumberForm = 14,
+    TextTooLong = 15,
+    NameUnanswered = 19,
+    CountTooHigh = 21,
+}
 
-pub const OUTSIDE_LIMITS: u32 = 3;
+impl Refusal {
+    ghost use Rattle.std.specs.Prelude.{◌≡◌};
+    ghost use Rattle.net.specs.Refusals.{refusal_number, refused_at};
 
-pub const NO_ACTIVITY: u32 = 4;
+    // The refusal's number.
+    pub fn number(self) -> u32
+        ensures { result ≡ refusal_number self }
+    {
+        self as u32
+    }
 
-pub const MISPLACED_SET: u32 = 5;
+    // The refusal with the place that is returned with it.
+    pub fn at(self, place: u32) -> Refused
+        ensures { result ≡ refused_at self place }
+    {
+        Refused {
+            refusal: self,
+            place,
+        }
+    }
+}
 
-pub const ON_NO_WALK: u32 = 6;
+// A refusal and its place: a position, an activity, a line or a net, as each call says, and 0 where it is of the whole call.
+#[derive(Clone, Copy, Debug, PartialEq, Eq)]
+pub struct Refused {
+    pub refusal: Refusal,
+    pub place: u32,
+}
 
-pub const WRONG_ENDS: u32 = 7;
+// A refusal of the whole call, so that `?` passes one on.
+impl From<Refusal> for Refused {
+    ghost use Rattle.std.specs.Prelude.{◌≡◌};
+    ghost use Rattle.net.specs.Refusals.{refused_at};
 
-pub const MISSING_SET: u32 = 8;
+    ghost from_gives = { λ refusal refused. refused ≡ refused_at refusal 0 };
 
-pub const WRONGLY_EMPTY: u32 = 9;
+    fn from(refusal: Refusal) -> Refused {
+        refusal.at(0)
+    }
+}
 
-pub const NOT_POSSIBLE: u32 = 10;
-
-pub const LEFT_OVER: u32 = 11;
-
-pub const FULL_SIDE: u32 = 12;
-
-pub const LINE_FORM: u32 = 13;
-
-pub const NUMBER_FORM: u32 = 14;
-
-pub const TEXT_TOO_LONG: u32 = 15;
-
-pub const NAME_UNANSWERED: u32 = 19;
-
-pub const COUNT_TOO_HIGH: u32 = 21;
+impl fmt::Display for Refused {
+    fn fmt<W: fmt::Write>(&self, f: &mut fmt::Formatter<W>) -> fmt::Result {
+        write!(f, "refused {} {}", self.refusal as u32, self.place)
+    }
+}

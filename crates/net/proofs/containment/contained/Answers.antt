@@ -1,37 +1,24 @@
 -- `contained` meets its contract: by cases on the two tests of the records and the test of containment. Assumes
 -- nothing.
-use mathlib.Core.Bool.{true}
-use mathlib.Core.Path.{◌≡◌, sym, ◌∙◌}
-use borrow.Author.Tests.{not-true, not-false}
-use Rattle.net.specs.Orderly.{orderly}
+use Rattle.std.proofs.Common.{◌≡◌, Bool, true, false, cond, refl}
+use Rattle.obligations.specs.Tests.{indicator}
+use Rattle.net.specs.Refusals.{accepted}
 use Rattle.net.specs.Contained.{contained_says}
 use Rattle.net.proofs.containment.contained.Goals as goal
 
 pub returns-then-not-is_orderly : goal.returns-then-not-is_orderly
 unfolding contained_says
-returns-then-not-is_orderly c = rw (sym c.is_orderly.ensures ∙ not-true _ c.if-not-is_orderly.true-raw)
+returns-then-not-is_orderly c = rw (c.at.ensures, ← c.if-not-is_orderly.ensures)
 
 pub returns-then-not-is_orderly-2 : goal.returns-then-not-is_orderly-2
 unfolding contained_says
 returns-then-not-is_orderly-2 c =
-    let first : orderly c.args.net ≡ true =
-    sym c.is_orderly.ensures ∙ not-false _ c.if-not-is_orderly.false-raw in
-    rw (first, sym c.is_orderly-2.ensures ∙ not-true _ c.if-not-is_orderly-2.true-raw)
+    rw (c.at-then-not-is_orderly-2.ensures, ← c.if-not-is_orderly.ensures, ← c.if-not-is_orderly-2.ensures)
 
-pub returns-then-is_contained : goal.returns-then-is_contained
+pub returns : goal.returns
 unfolding contained_says
-returns-then-is_contained c =
-    let first : orderly c.args.net ≡ true =
-    sym c.is_orderly.ensures ∙ not-false _ c.if-not-is_orderly.false-raw in
-    let second : orderly c.args.other ≡ true =
-    sym c.is_orderly-2.ensures ∙ not-false _ c.if-not-is_orderly-2.false-raw in
-    rw (first, second, sym c.is_contained.ensures ∙ c.if-is_contained.true)
-
-pub returns-else-is_contained : goal.returns-else-is_contained
-unfolding contained_says
-returns-else-is_contained c =
-    let first : orderly c.args.net ≡ true =
-    sym c.is_orderly.ensures ∙ not-false _ c.if-not-is_orderly.false-raw in
-    let second : orderly c.args.other ≡ true =
-    sym c.is_orderly-2.ensures ∙ not-false _ c.if-not-is_orderly-2.false-raw in
-    rw (first, second, sym c.is_contained.ensures ∙ c.if-is_contained.false)
+returns c = rw (← c.if-not-is_orderly.ensures, ← c.if-not-is_orderly-2.ensures, c.is_contained.ensures) (indicated _)
+  where
+    indicated : (b : Bool) → accepted (indicator b) ≡ cond b (accepted 1) (accepted 0)
+    indicated true = refl
+    indicated false = refl

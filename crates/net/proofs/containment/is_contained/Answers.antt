@@ -1,40 +1,34 @@
 -- `is_contained` meets its contract: the tests in the order of the definition. Assumes nothing.
-use borrow.Author.Tests.{eq-eqb, ne_eqb, not-true, not-false}
+use borrow.Author.Tests.{eq-eqb, ne_eqb}
+use Rattle.net.specs.declared.sides.Side.TheVariants.{Input, Output}
 use Rattle.net.specs.Contained.{contained}
-use Rattle.net.specs.declared.Side.TheVariants.{Input, Output}
 use Rattle.net.proofs.OrderlyLaws.{orderly_arrays}
 use Rattle.net.proofs.containment.is_contained.Goals as goal
+use Rattle.net.proofs.containment.is_contained.Goals.{then-net-other-via-then-net-other, then-net-other-via-else-net-other+then-net-other-2}
 
 pub returns-then-net-other : goal.returns-then-net-other
 unfolding contained
-returns-then-net-other c = rw (ne_eqb _ _ c.if-net-other.true)
-
-pub returns-then-net-other-2 : goal.returns-then-net-other-2
-unfolding contained
-returns-then-net-other-2 c = rw (eq-eqb _ _ c.if-net-other.false, ne_eqb _ _ c.if-net-other-2.true)
+returns-then-net-other c = elim c.then-net-other.branch [
+  | then-net-other-via-then-net-other w ↦ rw (ne_eqb _ _ w.if-net-other.true)
+  | then-net-other-via-else-net-other+then-net-other-2 w ↦ rw (eq-eqb _ _ w.if-net-other.false, ne_eqb _ _ w.if-net-other-2.true)
+]
 
 pub sides_within-requires : goal.sides_within-requires
 sides_within-requires c =
-    record {
-      sides = orderly_arrays c.args.net c.requires.0 Input;
-      sides_2 = orderly_arrays c.args.other c.requires.1 Input;
-    }
+    let o = c.requires in
+    (orderly_arrays c.args.net.now o.0 Input, orderly_arrays c.args.other.now o.1 Input)
 
-pub returns-then-not-sides_within : goal.returns-then-not-sides_within
+pub sides_within-requires-then-sides_within : goal.sides_within-requires-then-sides_within
+sides_within-requires-then-sides_within c =
+    let o = c.requires in
+    (orderly_arrays c.args.net.now o.0 Output, orderly_arrays c.args.other.now o.1 Output)
+
+pub returns-then-sides_within : goal.returns-then-sides_within
 unfolding contained
-returns-then-not-sides_within c =
-    let s = c.sides_within in
-    rw (eq-eqb _ _ c.if-net-other.false, eq-eqb _ _ c.if-net-other-2.false, ← s.ensures, not-true s.result c.if-not-sides_within.true-raw)
+returns-then-sides_within c =
+    rw (eq-eqb _ _ c.if-net-other.false, eq-eqb _ _ c.if-net-other-2.false, ← c.if-sides_within.ensures) c.sides_within-then-sides_within.ensures
 
-pub sides_within-requires-2 : goal.sides_within-requires-2
-sides_within-requires-2 c =
-    record {
-      sides = orderly_arrays c.args.net c.requires.0 Output;
-      sides_2 = orderly_arrays c.args.other c.requires.1 Output;
-    }
-
-pub returns : goal.returns
+pub returns-else-sides_within : goal.returns-else-sides_within
 unfolding contained
-returns c =
-    let s = c.sides_within in
-    rw (eq-eqb _ _ c.if-net-other.false, eq-eqb _ _ c.if-net-other-2.false, ← s.ensures, not-false s.result c.if-not-sides_within.false-raw) c.sides_within-2.ensures
+returns-else-sides_within c =
+    rw (eq-eqb _ _ c.if-net-other.false, eq-eqb _ _ c.if-net-other-2.false, ← c.if-sides_within.ensures) c.if-sides_within.false

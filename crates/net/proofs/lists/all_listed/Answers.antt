@@ -9,14 +9,14 @@ use Rattle.net.proofs.lists.all_listed.Goals as goal
 pub returns-then-not-is_listed : goal.returns-then-not-is_listed
 returns-then-not-is_listed c =
     let a = c.args in
-    sym (c.loop-i.invariant.1 ∙ all_listed_stop c.loop-i.i a.list.now a.other.now (omega arith) (sym c.is_listed.ensures ∙ not-true _ c.if-not-is_listed.true-raw))
+    sym (c.loop-m.invariant ∙ all_listed_stop c.loop-m.m-index a.list.now a.other.now (omega arith) (sym c.is_listed.ensures ∙ not-true _ c.if-not-is_listed.true-raw))
 
-pub loop-i-preserved : goal.loop-i-preserved
-loop-i-preserved c =
+pub loop-m-preserved : goal.loop-m-preserved
+loop-m-preserved c =
     let a = c.args in
-    (omega arith, c.loop-i.invariant.1 ∙ all_listed-next c.loop-i.i a.list.now a.other.now (omega arith) (sym c.is_listed.ensures ∙ not-false _ c.if-not-is_listed.false-raw))
+    c.loop-m.invariant ∙ all_listed-next c.loop-m.m-index a.list.now a.other.now (omega arith) (sym c.is_listed.ensures ∙ not-false _ c.if-not-is_listed.false-raw)
 
 pub returns : goal.returns
 returns c =
     let a = c.args in
-    sym (c.loop-i.invariant.1 ∙ all_listed-end c.loop-i.i a.list.now a.other.now (omega arith))
+    sym (c.loop-m.invariant ∙ all_listed-end c.loop-m.m-index a.list.now a.other.now (omega arith))

@@ -1,11 +1,6 @@
-use Prim.Native.Nat.{◌≤◌, ◌-◌}
-use mathlib.Core.Path.{◌≡◌}
-use lib.ListN.{length, drop}
+use Rattle.std.proofs.Common.{◌≡◌, drop}
 use Rattle.net.specs.Lists.{ascends_above}
 use Rattle.net.proofs.lists.ascends.Given as goal
 
-abbrev pub invariant-loop-i : goal.invariant-loop-i
-invariant-loop-i l = (l.i ≤ length l.list) × (ascends_above 0 l.list ≡ ascends_above l.last (drop l.i l.list))
-
-abbrev pub decreases-loop-i : goal.decreases-loop-i
-decreases-loop-i l = length l.list - l.i
+abbrev pub invariant-loop-m : goal.invariant-loop-m
+invariant-loop-m l = ascends_above 0 l.list ≡ ascends_above l.last (drop l.m-index l.list)

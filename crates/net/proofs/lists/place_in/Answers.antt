@@ -1,18 +1,17 @@
 -- `place_in` meets its contract: the loop keeps that the place in the whole list is the one in the rest, behind those passed.
 -- Assumes nothing.
-use borrow.Author.Rules.{rules}
 use native.Mathlib.Omega.{arith}
 use Rattle.net.proofs.InsertLaws.{place_stop, place-next, place_end}
 use Rattle.net.proofs.lists.place_in.Goals as goal
 
-pub returns-then-list-i : goal.returns-then-list-i
-returns-then-list-i c =
-    omega (arith, c.loop-i.invariant.1, place_stop c.args.m c.loop-i.i c.args.list.now (omega arith) c.if-list-i.true)
+pub returns-then-x-m : goal.returns-then-x-m
+returns-then-x-m c =
+    omega (arith, c.loop-i.invariant, place_stop c.args.m c.loop-i.i c.args.list.now (omega arith) c.if-x-m.true)
 
 pub loop-i-preserved : goal.loop-i-preserved
 loop-i-preserved c =
-    (search rules, omega (arith, c.loop-i.invariant.1, place-next c.args.m c.loop-i.i c.args.list.now (omega arith) c.if-list-i.false))
+    omega (arith, c.loop-i.invariant, place-next c.args.m c.loop-i.i c.args.list.now (omega arith) c.if-x-m.false)
 
 pub returns : goal.returns
 returns c =
-    omega (arith, c.loop-i.invariant.1, place_end c.args.m c.loop-i.i c.args.list.now (omega arith))
+    omega (arith, c.loop-i.invariant, place_end c.args.m c.loop-i.i c.args.list.now (omega arith))

@@ -1,6 +1,5 @@
 -- `fresh` meets its contract: by cases on the test of the ends. Assumes nothing.
-use mathlib.Core.Path.{sym, ◌∙◌}
-use borrow.Author.Tests.{not-true, not-false}
+use mathlib.Core.Path.{sym}
 use Rattle.net.specs.Fresh.{fresh_says, fresh_gives}
 use Rattle.net.proofs.OrderlyLaws.{ends_facts}
 use Rattle.net.proofs.making.fresh.Goals as goal
@@ -8,16 +7,16 @@ use Rattle.net.proofs.making.fresh.Goals as goal
 pub returns-then-not-ends_ok : goal.returns-then-not-ends_ok
 unfolding fresh_says fresh_gives
 returns-then-not-ends_ok c =
-    let e = sym c.ends_ok.ensures ∙ not-true _ c.if-not-ends_ok.true-raw in
-    record { says = rw e; gives = rw e c.fresh_net-net.ensures }
+    let e = c.if-not-ends_ok.ensures in
+    record { says = rw (c.at.ensures, ← e); gives = rw (← e) c.fresh_net.ensures }
 
-pub fresh_net-net-requires-2 : goal.fresh_net-net-requires-2
-fresh_net-net-requires-2 c =
-    let f = ends_facts c.args.start c.args.end (sym c.ends_ok.ensures ∙ not-false _ c.if-not-ends_ok.false-raw) in
+pub fresh_net-requires-2 : goal.fresh_net-requires-2
+fresh_net-requires-2 c =
+    let f = ends_facts c.args.start c.args.end (sym c.if-not-ends_ok.ensures) in
     (f.0, f.1)
 
 pub returns : goal.returns
 unfolding fresh_says fresh_gives
 returns c =
-    let e = sym c.ends_ok.ensures ∙ not-false _ c.if-not-ends_ok.false-raw in
-    record { says = rw e; gives = rw e c.fresh_net-net-2.ensures }
+    let e = c.if-not-ends_ok.ensures in
+    record { says = rw (← e); gives = rw (← e) c.fresh_net-2.ensures }

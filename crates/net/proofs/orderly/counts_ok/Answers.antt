@@ -1,13 +1,8 @@
 -- `counts_ok` meets its contract: the loop keeps that the places past the sets of every side passed have count 0. Assumes
 -- nothing.
-use Prim.Native.Nat.{◌≤◌}
-use native.Mathlib.Omega.{arith}
-use mathlib.Core.Path.{◌≡◌, sym, ap, ◌∙◌}
-use lib.ListN.{get_or, drop}
-use borrow.Author.Count.{below_more}
-use borrow.Author.Tests.{not-true, not-false}
+use Rattle.std.proofs.Common.{◌≡◌, get_or, drop, arith, below_more}
+use mathlib.Core.Path.{sym, ap, ◌∙◌}
 use Rattle.obligations.specs.Limits.{activities}
-use Rattle.net.specs.Limits.{sets}
 use Rattle.net.specs.Lists.{zeros}
 use Rattle.net.specs.Sides.{block}
 use Rattle.net.specs.Orderly.{counts_ok}
@@ -18,24 +13,20 @@ use Rattle.net.proofs.orderly.counts_ok.Goals as goal
 pub returns-then-not-all_zero : goal.returns-then-not-all_zero
 unfolding counts_ok
 returns-then-not-all_zero c =
-    let at_most : get_or c.args.lengths.now c.loop-a.a 0 ≤ sets =
-    c.requires.at_most c.loop-a.a c.loop-a-test.true in
-    let turn : let s = c.args in zeros (drop (get_or s.lengths.now c.loop-a.a 0) (block s.counts.now c.loop-a.a)) ≡ c.all_zero.result =
-    let s = c.args in
-    sym (ap zeros (past_part s.counts.now c.loop-a.a (get_or s.lengths.now c.loop-a.a 0) at_most)) ∙ sym c.all_zero.ensures in
-    sym (below_false activities _ c.loop-a.a (omega arith) (turn ∙ not-true _ c.if-not-all_zero.true-raw))
+    let s = c.args.sides.now in
+    let n = get_or s.lengths c.loop-a.a 0 in
+    let turn : zeros (drop n (block s.counts c.loop-a.a)) ≡ c.all_zero.result = sym (ap zeros (past_part s.counts c.loop-a.a n (c.requires.at_most c.loop-a.a c.loop-a-test.true))) ∙ sym c.all_zero.ensures in
+    sym (below_false activities _ c.loop-a.a c.loop-a-test.true (turn ∙ c.if-not-all_zero.true))
 
 pub loop-a-preserved : goal.loop-a-preserved
 loop-a-preserved c =
-    let at_most : get_or c.args.lengths.now c.loop-a.a 0 ≤ sets =
-    c.requires.at_most c.loop-a.a c.loop-a-test.true in
-    let turn : let s = c.args in zeros (drop (get_or s.lengths.now c.loop-a.a 0) (block s.counts.now c.loop-a.a)) ≡ c.all_zero.result =
-    let s = c.args in
-    sym (ap zeros (past_part s.counts.now c.loop-a.a (get_or s.lengths.now c.loop-a.a 0) at_most)) ∙ sym c.all_zero.ensures in
-    (omega arith, below_more _ _ c.loop-a.invariant.1 (turn ∙ not-false _ c.if-not-all_zero.false-raw))
+    let s = c.args.sides.now in
+    let n = get_or s.lengths c.loop-a.a 0 in
+    let turn : zeros (drop n (block s.counts c.loop-a.a)) ≡ c.all_zero.result = sym (ap zeros (past_part s.counts c.loop-a.a n (c.requires.at_most c.loop-a.a c.loop-a-test.true))) ∙ sym c.all_zero.ensures in
+    below_more _ _ c.loop-a.invariant (turn ∙ c.if-not-all_zero.false)
 
 pub returns : goal.returns
 unfolding counts_ok
 returns c =
     let e : c.loop-a.a ≡ activities = omega arith in
-    sym (below_true activities _ (rw e at c.loop-a.invariant.1))
+    sym (below_true activities _ (rw e at c.loop-a.invariant))

@@ -1,33 +1,35 @@
 -- `put_counted` meets its contract: where the set is new its place is opened in the counts too. Assumes nothing.
-use native.Mathlib.Omega.{arith}
-use mathlib.Core.Path.{sym, ◌∙◌}
+use Rattle.std.proofs.Common.{◌≡◌, length, rules, arith}
+use Rattle.std.proofs.lemmas.Result.{err_from_is_err_and}
+use mathlib.Core.Path.{ap}
+use Rattle.net.specs.Limits.{places}
 use Rattle.net.proofs.SideLaws.{side_at_most}
-use Rattle.net.proofs.PlacedLaws.{present_not_new, refused-not_new, room_there, counted_new, counted_same}
+use Rattle.net.proofs.PlacedLaws.{room_there, counted_new, counted_present, counted_refused}
 use Rattle.net.proofs.putting.put_counted.Goals as goal
 
 pub side_end-to-requires : goal.side_end-to-requires
 side_end-to-requires c =
-    let s = c.args in
-    (c.requires.2, c.requires.0.lengths_long, side_at_most s.masks.now s.lengths.now s.empty c.requires.0 s.a c.requires.2)
+    let s = c.args.sides.now in
+    (c.requires.activity, side_at_most s.masks s.lengths c.args.empty c.requires.orderly c.args.a c.requires.activity)
+
+pub returns-in_err-placed : goal.returns-in_err-placed
+returns-in_err-placed c =
+    let p = err_from_is_err_and c.from_residual.result c.from_residual.ensures.1 in
+    rw (p.1, p.2, c.put_side.ensures.counts) (counted_refused _ _ _ _ _ _ _ _ _ c.in_err-placed.ensures.done)
 
 pub insert_at-requires : goal.insert_at-requires
 insert_at-requires c =
-    let s = c.args in
-    let f = room_there s.masks.now s.lengths.now s.empty s.a s.m c.requires.0 c.requires.2 _ _ _ c.put_side-placed.ensures _ _ c.in-New.is c.side_end-to.ensures in
-    (omega (arith, f.0), omega (arith, f.0, f.1, c.requires.1))
+    let s = c.args.sides.now in
+    let long : length s.counts ≡ places = search rules in
+    let f = room_there s.masks s.lengths c.args.empty c.args.a c.args.m c.requires.orderly c.requires.activity _ _ _ c.in_ok-placed.ensures.done _ c.if-placed.true c.side_end-to.ensures in
+    (f.0, omega (arith, f.1, long, ap length c.put_side.ensures.counts))
 
-pub returns-in-New : goal.returns-in-New
-returns-in-New c =
-    let s = c.args in
-    counted_new s.masks.now s.lengths.now s.empty s.a s.m c.requires.0 c.requires.2 _ _ _ c.put_side-placed.ensures _ _ c.in-New.is c.side_end-to.ensures
-    s.counts.now _ c.requires.1 c.insert_at.ensures
+pub returns-then-placed : goal.returns-then-placed
+returns-then-placed c =
+    let s = c.args.sides.now in
+    let long : length s.counts ≡ places = search rules in
+    counted_new s.masks s.lengths c.args.empty c.args.a c.args.m c.requires.orderly c.requires.activity _ _ _ c.in_ok-placed.ensures.done _ c.if-placed.true c.side_end-to.ensures s.counts _ long (rw (← c.put_side.ensures.counts) c.insert_at.ensures)
 
-pub returns-in-Present : goal.returns-in-Present
-returns-in-Present c =
-    let s = c.args in
-    counted_same s.masks.now s.lengths.now s.counts.now s.empty s.a s.m _ _ _ c.put_side-placed.ensures (λ y f. present_not_new _ y (sym c.in-Present.is ∙ f))
-
-pub returns-in-Refused : goal.returns-in-Refused
-returns-in-Refused c =
-    let s = c.args in
-    counted_same s.masks.now s.lengths.now s.counts.now s.empty s.a s.m _ _ _ c.put_side-placed.ensures (λ y f. refused-not_new _ _ y (sym c.in-Refused.is ∙ f))
+pub returns-else-placed : goal.returns-else-placed
+returns-else-placed c =
+    rw c.put_side.ensures.counts (counted_present _ _ _ _ _ _ _ _ _ c.in_ok-placed.ensures.done c.if-placed.false)
