@@ -5,6 +5,7 @@ use mathlib.Core.Path.{◌≡◌, refl}
 use mathlib.Core.List.{List, [], ◌∷◌, ◌++◌, map}
 use lib.Dec.{lit<}
 use lib.ListN.{replicate, set}
+use Rattle.std.specs.Prelude.{true, false, Ok, Err}
 use Rattle.obligations.specs.Limits.{positions}
 use Rattle.obligations.specs.Tests.{number, first_from, first_failing}
 use Rattle.obligations.specs.Sets.{bit, member, single, union, keep, members_from, members, size}
@@ -12,6 +13,8 @@ use Rattle.obligations.specs.State.{places_of, inputs, outputs, all_due, lowered
 use Rattle.obligations.specs.Trace.{first_no_activity, ends_agree, shaped}
 use Rattle.obligations.specs.Sequence.{bindings, words, run, possible_at, first_impossible}
 use Rattle.obligations.specs.Examples.{fig4, trip}
+use Rattle.net.specs.Refusals.{refused_at}
+use Rattle.net.specs.declared.refusal.Refusal.TheVariants.{OutsideLimits, NoActivity, WrongEnds, WronglyEmpty, NotPossible, LeftOver, FullSide, CountTooHigh}
 use Rattle.net.specs.Limits.{most_uses}
 use Rattle.net.specs.Lists.{all_below, listed, all_listed, ascends_above, zeros, insert, insert_at, place_in}
 use Rattle.net.specs.Sides.{uncounted, sets_on, counts_on}
@@ -20,19 +23,16 @@ use Rattle.net.specs.Fresh.{fresh_net, fresh_gives}
 use Rattle.net.specs.Examples.{F, travel}
 use Rattle.net.specs.Put.{misplaced, side_says, grows, with_sides, put_masks, put_lengths, put_counts}
 use Rattle.net.specs.Contained.{sides_within, contained, contained_means, contained_says}
-use Rattle.net.specs.declared.Side.TheVariants.{Input, Output}
-use Rattle.net.specs.declared.ContainedAnswer.TheVariants.{Yes, No}
+use Rattle.net.specs.declared.sides.Side.TheVariants.{Input, Output}
 use Rattle.walks.specs.Below.{any_below, sum_below, with_if, those_below, those}
 use Rattle.walks.specs.Arcs.{named, names, arc, arcs}
 use Rattle.walks.specs.Rows.{rows_from, rows, union_from, one_round, rounds, reach}
 use Rattle.walks.specs.Check.{on_sides, in_net, successors, predecessors, outside, lost, unanswered_on, unanswered, lowest_member, check_means, check_says}
-use Rattle.walks.specs.declared.CheckAnswer.TheVariants.{Passed}
 use Rattle.sequences.specs.Limits.{words_within, within_limits, trace_within_limits}
 use Rattle.sequences.specs.Run.{largest_total, output_sizes}
 use Rattle.sequences.specs.Gain.{raised_at, topped_at, with_use, takes_put, topped_use, with_binding, takes_binding, topped_binding, gained, fits, topped}
 use Rattle.sequences.specs.Judge.{judge_says, judge_positions, run_says, first_missing, on_side_at}
 use Rattle.sequences.specs.Learn.{learn_means, empty_agree, first_wrongly_empty, learn_positions, learn_says, learn_gives}
-use Rattle.sequences.specs.declared.LearnAnswer.TheVariants.{Learned, Refused}
 use Rattle.sequences.specs.Follow.{followed_from, follow_positions, follow_says, follow_gives}
 use Rattle.search.specs.Search.{trials_of, later, or_else, behind, trial_if, trial, try_outputs, try_inputs, at_end, search_from, search_of}
 use Rattle.search.specs.Trace.{has_room}
@@ -82,8 +82,8 @@ F-counts = (refl, refl, refl, refl, refl)
 
 -- F in which 2 on the output side of 0 has the highest count: a session that uses it is refused by 21, and one that doesn't is not
 F-worn :
-    answers (with_sides F Output F.outputs F.output_len (set F.output_counts 0 most_uses)) (follow (0 ∷ 1 ∷ 3 ∷ []) ∷ follow (0 ∷ 2 ∷ 3 ∷ []) ∷ [])
-    ≡ map learn_means (Refused 21 0 ∷ Learned 0 ∷ [])
+    answers (with_sides F Output F.outputs.masks F.outputs.lengths (set F.outputs.counts 0 most_uses)) (follow (0 ∷ 1 ∷ 3 ∷ []) ∷ follow (0 ∷ 2 ∷ 3 ∷ []) ∷ [])
+    ≡ map learn_means (Err (refused_at CountTooHigh 0) ∷ Ok 0 ∷ [])
 unfolding learn_says learn_gives within_limits words_within bindings first_no_activity first_failing first_from learn_positions shaped ends_agree first_wrongly_empty empty_agree first_impossible possible_at possible run after taken added inputs outputs places_of members members_from keep all_due lowered raised all_zero fits takes_binding takes_put with_binding with_use gained topped topped_binding topped_use topped_at raised_at side_says misplaced listed insert insert_at place_in grows put_masks put_lengths put_counts total fresh_net orderly sized ends_ok sides_ok block_ok counts_ok kind_ok all_below ascends_above zeros follow_says follow_gives trace_within_limits follow_positions followed_from single F answers
 F-worn = refl
 
@@ -103,10 +103,10 @@ nets :
     let net = grown (fresh_net 0 4) calls in
     let larger = grown (fresh_net 0 4) more in
     let other = grown (fresh_net 0 4) others in
-    (answers (fresh_net 0 4) calls ≡ map learn_means (Learned 12 ∷ Refused 10 2 ∷ Refused 7 0 ∷ Learned 0 ∷ []))
-    × (map check_says (net ∷ larger ∷ other ∷ []) ≡ map check_means (Passed 7 ∷ Passed 8 ∷ Passed 1 ∷ []))
-    × (contained_says net larger ≡ contained_means Yes)
-    × (contained_says net other ≡ contained_means No)
+    (answers (fresh_net 0 4) calls ≡ map learn_means (Ok 12 ∷ Err (refused_at NotPossible 2) ∷ Err (refused_at WrongEnds 0) ∷ Ok 0 ∷ []))
+    × (map check_says (net ∷ larger ∷ other ∷ []) ≡ map check_means (Ok 7 ∷ Ok 8 ∷ Ok 1 ∷ []))
+    × (contained_says net larger ≡ contained_means (Ok true))
+    × (contained_says net other ≡ contained_means (Ok false))
 unfolding learn_says learn_gives within_limits words_within bindings first_no_activity first_failing first_from learn_positions shaped ends_agree first_wrongly_empty empty_agree first_impossible possible_at possible run after taken added inputs outputs places_of members members_from keep all_due lowered raised all_zero fits takes_binding takes_put with_binding with_use gained topped topped_binding topped_use topped_at raised_at side_says misplaced listed insert insert_at place_in grows put_masks put_lengths put_counts total fresh_net orderly sized ends_ok sides_ok block_ok counts_ok kind_ok all_below ascends_above zeros follow_says follow_gives trace_within_limits follow_positions followed_from single check_says lowest_member lost unanswered unanswered_on outside successors predecessors in_net on_sides reach rounds one_round union_from rows rows_from arcs arc names named those those_below with_if sum_below number any_below union member bit contained_says contained sides_within all_listed calls more others fig4 grown answers
 nets = (refl, refl, refl, refl)
 
@@ -133,7 +133,7 @@ busy =
 
 -- each way adds four sets, the first way again none, and after the refused calls the start's output side is what it was
 full :
-    (answers (fresh_net 0 31) busy ≡ map learn_means (replicate 16 (Learned 4) ++ (Refused 12 0 ∷ Refused 3 0 ∷ Refused 3 0 ∷ Refused 4 2 ∷ Refused 9 1 ∷ Refused 11 0 ∷ Learned 0 ∷ [])))
+    (answers (fresh_net 0 31) busy ≡ map learn_means (replicate 16 (Ok 4) ++ (Err (refused_at FullSide 0) ∷ Err (refused_at OutsideLimits 0) ∷ Err (refused_at OutsideLimits 0) ∷ Err (refused_at NoActivity 2) ∷ Err (refused_at WronglyEmpty 1) ∷ Err (refused_at LeftOver 0) ∷ Ok 0 ∷ [])))
     × (sets_on (grown (fresh_net 0 31) busy) Output 0 ≡ 2 ∷ 4 ∷ 8 ∷ 16 ∷ 32 ∷ 64 ∷ 128 ∷ 256 ∷ 512 ∷ 1024 ∷ 2048 ∷ 4096 ∷ 8192 ∷ 16384 ∷ 32768 ∷ 65536 ∷ [])
 unfolding learn_says learn_gives within_limits words_within bindings first_no_activity first_failing first_from learn_positions shaped ends_agree first_wrongly_empty empty_agree first_impossible possible_at possible run after taken added inputs outputs places_of members members_from keep all_due lowered raised all_zero fits takes_binding takes_put with_binding with_use gained topped topped_binding topped_use topped_at raised_at side_says misplaced listed insert insert_at place_in grows put_masks put_lengths put_counts total fresh_net orderly sized ends_ok sides_ok block_ok counts_ok kind_ok all_below ascends_above zeros follow_says follow_gives trace_within_limits follow_positions followed_from single through busy grown answers
 full = (refl, refl)

@@ -1,45 +1,43 @@
 -- The marked examples of 01 ("Marked examples on net F, and slips"), as one list, and those of 02 by request. They are checked in
 -- proofs/Examples.antt.
-use Rattle.std.specs.Prelude.{ℕ, ◌+◌, ◌-◌, ◌*◌, ◌≡◌, List, [], ◌∷◌, ◌++◌, map, replicate}
+use Rattle.std.specs.Prelude.{ℕ, true, false, Ok, Err, ◌+◌, ◌-◌, ◌*◌, ◌≡◌, List, [], ◌∷◌, ◌++◌, map, replicate}
 use Rattle.obligations.specs.Limits.{positions}
 use Rattle.obligations.specs.Sequence.{bindings, words}
 use Rattle.obligations.specs.Examples.{fig4, trip}
+use Rattle.net.specs.Refusals.{refused_at}
+use Rattle.net.specs.declared.refusal.Refusal.TheVariants.{OutsideLimits, NotPossible, LeftOver}
 use Rattle.net.specs.Fresh.{fresh_gives}
 use Rattle.net.specs.Contained.{contained_means, contained_says}
 use Rattle.net.specs.Examples.{F, travel}
-use Rattle.net.specs.declared.ContainedAnswer.TheVariants.{Yes, No}
 use Rattle.walks.specs.Check.{check_means, check_says}
-use Rattle.walks.specs.declared.CheckAnswer.TheVariants.{Passed}
 use Rattle.sequences.specs.Run.{Peak, output_sizes}
 use Rattle.sequences.specs.Learn.{learn_means}
 use Rattle.sequences.specs.Judge.{judge_means, judge_says}
 use Rattle.sequences.specs.Follow.{followed}
-use Rattle.sequences.specs.declared.LearnAnswer.TheVariants as learned
-use Rattle.sequences.specs.declared.JudgeAnswer.TheVariants as judged
 use Rattle.search.specs.Replay.{replay_means, replay_says}
-use Rattle.search.specs.declared.ReplayAnswer.TheVariants.{Found, None, Spent, Refused}
+use Rattle.search.specs.declared.Outcome.TheVariants.{Found, Failed, Spent}
 use Rattle.promises.specs.Calls.{learn, follow, grown, answers}
 
 -- 01's, in its order; each replay has a buffer of 12 words, and where the paper names no budget 1,000,000
 abbrev pub Marked : Type 0
 Marked =
-    (check_says F ≡ check_means (Passed 4))
-    × (replay_says F (0 ∷ 1 ∷ 3 ∷ []) 1000000 12 ≡ replay_means (Found 3))
-    × (replay_says F (0 ∷ 2 ∷ 3 ∷ []) 1000000 12 ≡ replay_means (Found 6))
-    × (replay_says F (0 ∷ 1 ∷ 2 ∷ 3 ∷ []) 1000000 12 ≡ replay_means (Found 11))
-    × (replay_says F (0 ∷ 1 ∷ 2 ∷ 3 ∷ []) 10 12 ≡ replay_means (Spent 10))
-    × (replay_says F (0 ∷ 1 ∷ 2 ∷ 3 ∷ []) 11 12 ≡ replay_means (Found 11))
-    × (replay_says F (0 ∷ 3 ∷ []) 1000000 12 ≡ replay_means (None 12))
-    × (replay_says F (0 ∷ 1 ∷ 1 ∷ 3 ∷ []) 1000000 12 ≡ replay_means (None 8))
-    × (replay_says F [] 1000000 12 ≡ replay_means (None 0))
-    × (replay_says F (0 ∷ []) 1000000 12 ≡ replay_means (None 0))
-    × (judge_says F (0 ∷ 0 ∷ 6 ∷ 2 ∷ 1 ∷ 8 ∷ 3 ∷ 4 ∷ 0 ∷ []) ≡ judge_means (judged.Refused 11 0))
-    × (answers (fresh_gives 0 3) (learn (0 ∷ 0 ∷ 2 ∷ 1 ∷ 3 ∷ 10 ∷ 3 ∷ 2 ∷ 0 ∷ []) ∷ []) ≡ map learn_means (learned.Refused 10 2 ∷ []))
-    × (answers (fresh_gives 0 4) (learn fig4 ∷ learn fig4 ∷ []) ≡ map learn_means (learned.Learned 12 ∷ learned.Learned 0 ∷ []))
+    (check_says F ≡ check_means (Ok 4))
+    × (replay_says F (0 ∷ 1 ∷ 3 ∷ []) 1000000 12 ≡ replay_means (Ok (Found 3)))
+    × (replay_says F (0 ∷ 2 ∷ 3 ∷ []) 1000000 12 ≡ replay_means (Ok (Found 6)))
+    × (replay_says F (0 ∷ 1 ∷ 2 ∷ 3 ∷ []) 1000000 12 ≡ replay_means (Ok (Found 11)))
+    × (replay_says F (0 ∷ 1 ∷ 2 ∷ 3 ∷ []) 10 12 ≡ replay_means (Ok (Spent 10)))
+    × (replay_says F (0 ∷ 1 ∷ 2 ∷ 3 ∷ []) 11 12 ≡ replay_means (Ok (Found 11)))
+    × (replay_says F (0 ∷ 3 ∷ []) 1000000 12 ≡ replay_means (Ok (Failed 12)))
+    × (replay_says F (0 ∷ 1 ∷ 1 ∷ 3 ∷ []) 1000000 12 ≡ replay_means (Ok (Failed 8)))
+    × (replay_says F [] 1000000 12 ≡ replay_means (Ok (Failed 0)))
+    × (replay_says F (0 ∷ []) 1000000 12 ≡ replay_means (Ok (Failed 0)))
+    × (judge_says F (0 ∷ 0 ∷ 6 ∷ 2 ∷ 1 ∷ 8 ∷ 3 ∷ 4 ∷ 0 ∷ []) ≡ judge_means (Err (refused_at LeftOver 0)))
+    × (answers (fresh_gives 0 3) (learn (0 ∷ 0 ∷ 2 ∷ 1 ∷ 3 ∷ 10 ∷ 3 ∷ 2 ∷ 0 ∷ []) ∷ []) ≡ map learn_means (Err (refused_at NotPossible 2) ∷ []))
+    × (answers (fresh_gives 0 4) (learn fig4 ∷ learn fig4 ∷ []) ≡ map learn_means (Ok 12 ∷ Ok 0 ∷ []))
 
 -- 02, (i): "for the sequence of document 003's trip net with hotel, flight and car it is 4, where the sum of output sizes is 7"
 abbrev pub MarkedPeak : Type 0
-MarkedPeak = Peak (bindings trip) 4 × (judge_says travel trip ≡ judge_means (judged.Judged 4)) × (output_sizes (bindings trip) ≡ 7)
+MarkedPeak = Peak (bindings trip) 4 × (judge_says travel trip ≡ judge_means (Ok 4)) × (output_sizes (bindings trip) ≡ 7)
 
 -- 02, (ii): "A session of 96 is replayed and one of 97 is refused as before by 3. The comparison of two nets covers the longer
 -- sequences too." A session goes from 0 to 3 by way of 1, again and again, and a detour by way of 2 at last. Trials: one at the
@@ -58,9 +56,9 @@ MarkedLongest =
     let net = grown (fresh_gives 0 3) (follow longest ∷ []) in
     let other = grown (fresh_gives 0 3) (follow longest ∷ follow (detour positions) ∷ []) in
     (positions ≡ 96)
-    × (answers (fresh_gives 0 3) (follow longest ∷ follow longer ∷ learn (words (followed longer)) ∷ []) ≡ map learn_means (learned.Learned 6 ∷ learned.Refused 3 0 ∷ learned.Refused 3 0 ∷ []))
-    × (replay_says net longest 1000000 (3 * positions) ≡ replay_means (Found (3 * positions - 4)))
-    × (replay_says net longer 1000000 (3 * (positions + 1)) ≡ replay_means (Refused 3 0))
-    × (judge_says net (words (followed longer)) ≡ judge_means (judged.Refused 3 0))
-    × (contained_says net other ≡ contained_means Yes)
-    × (contained_says other net ≡ contained_means No)
+    × (answers (fresh_gives 0 3) (follow longest ∷ follow longer ∷ learn (words (followed longer)) ∷ []) ≡ map learn_means (Ok 6 ∷ Err (refused_at OutsideLimits 0) ∷ Err (refused_at OutsideLimits 0) ∷ []))
+    × (replay_says net longest 1000000 (3 * positions) ≡ replay_means (Ok (Found (3 * positions - 4))))
+    × (replay_says net longer 1000000 (3 * (positions + 1)) ≡ replay_means (Err (refused_at OutsideLimits 0)))
+    × (judge_says net (words (followed longer)) ≡ judge_means (Err (refused_at OutsideLimits 0)))
+    × (contained_says net other ≡ contained_means (Ok true))
+    × (contained_says other net ≡ contained_means (Ok false))

@@ -13,8 +13,8 @@ use Rattle.net.specs.Sentences.{NoneHolds, AsListed}
 use Rattle.net.specs.Sides.{counts_on, net_size}
 use Rattle.net.specs.Valid.{Valid}
 use Rattle.net.specs.declared.Net.{Net}
-use Rattle.net.specs.declared.Side.{Side}
-use Rattle.net.specs.declared.Side.TheVariants.{Input, Output}
+use Rattle.net.specs.declared.sides.Side.{Side}
+use Rattle.net.specs.declared.sides.Side.TheVariants.{Input, Output}
 use Rattle.net.proofs.SentenceLaws.{Told, told-accepted}
 use Rattle.sequences.specs.Gain.{occurrences_of, Gains}
 use Rattle.sequences.specs.Learn.{new_sets, learn_says, learn_gives}

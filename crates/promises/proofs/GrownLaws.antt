@@ -14,8 +14,8 @@ use Rattle.net.specs.Sides.{counts_on, count_of, OnSide}
 use Rattle.net.specs.Orderly.{Orderly}
 use Rattle.net.specs.Valid.{Valid}
 use Rattle.net.specs.declared.Net.{Net}
-use Rattle.net.specs.declared.Side.{Side}
-use Rattle.net.specs.declared.Side.TheVariants.{Input, Output}
+use Rattle.net.specs.declared.sides.Side.{Side}
+use Rattle.net.specs.declared.sides.Side.TheVariants.{Input, Output}
 use Rattle.sequences.specs.Gain.{SetOf, occurrences_of, Gains}
 use Rattle.sequences.specs.Learn.{new_sets}
 use Rattle.promises.specs.Calls.{Call, sequence_of, says, gives, grown, AllWords}

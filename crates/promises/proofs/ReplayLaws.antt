@@ -10,7 +10,7 @@ use Rattle.obligations.specs.Sequence.{Binding}
 use Rattle.net.specs.Orderly.{Orderly}
 use Rattle.net.specs.Contained.{Contained}
 use Rattle.net.specs.declared.Net.{Net}
-use Rattle.net.specs.declared.Side.TheVariants.{Input, Output}
+use Rattle.net.specs.declared.sides.Side.TheVariants.{Input, Output}
 use Rattle.net.proofs.OrderlyLaws.{facts_orderly, on_side_activity}
 use Rattle.search.specs.Choice.{Choice}
 use Rattle.search.specs.Search.{trials_of}

@@ -16,8 +16,8 @@ use Rattle.obligations.proofs.MemberLaws.{some_member}
 use Rattle.net.specs.Sides.{opposite, OnSide}
 use Rattle.net.specs.Valid.{Valid}
 use Rattle.net.specs.declared.Net.{Net}
-use Rattle.net.specs.declared.Side.{Side}
-use Rattle.net.specs.declared.Side.TheVariants.{Input, Output}
+use Rattle.net.specs.declared.sides.Side.{Side}
+use Rattle.net.specs.declared.sides.Side.TheVariants.{Input, Output}
 use Rattle.walks.specs.Arcs.{Names, Arc}
 use Rattle.walks.specs.Walk.{here, along, Walk, OnWalk}
 use Rattle.walks.proofs.AlongLaws.{along_one, along_join}

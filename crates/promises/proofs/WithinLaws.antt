@@ -13,8 +13,8 @@ use Rattle.net.specs.Fresh.{fresh_net}
 use Rattle.net.specs.Contained.{Contained}
 use Rattle.net.specs.Valid.{Valid}
 use Rattle.net.specs.declared.Net.{Net}
-use Rattle.net.specs.declared.Side.{Side}
-use Rattle.net.specs.declared.Side.TheVariants.{Input, Output}
+use Rattle.net.specs.declared.sides.Side.{Side}
+use Rattle.net.specs.declared.sides.Side.TheVariants.{Input, Output}
 use Rattle.net.proofs.ListLaws.{one_listed}
 use Rattle.net.proofs.FreshLaws.{fresh_on_side}
 use Rattle.net.proofs.WithinLaws.{same_empty}
