@@ -1,18 +1,21 @@
--- Laws of byte strings, for loops over s[k..e]: what the byte at k decides, and what is left from k + 1 on. `slice-step`
--- and `drop-step` are the bridge between an index and a list; the rest computes from there. Assumes nothing.
+-- Laws of byte strings: `drop-step` is the bridge between an index and a list, the words of the specs are those of std's
+-- chains, and `==` passes exactly on equal strings. Assumes nothing.
 use Prim.Native.Nat.{ℕ, zero, suc, ◌+◌, ◌≤◌, ◌<◌}
 use mathlib.Core.Path.{◌≡◌, refl, sym, ap, ap₂, ◌∙◌}
 use mathlib.Core.Logic.{◌↔◌}
-use mathlib.Core.Bool.{Bool, true, false, and-false, cond, false≢true}
+use mathlib.Core.Bool.{Bool, true, false, not, and-false, cond, false≢true}
 use mathlib.Core.List.{List, [], ◌∷◌, ◌++◌}
 use native.Mathlib.Nat.{add_assoc, zero-add, suc-add}
 use native.Mathlib.Numerals.{add-one}
 use native.Mathlib.Omega.{arith}
-use borrow.Author.Tests.{eq-eqb, ne_eqb, eqb-true}
+use borrow.Author.Tests.{eq-eqb, ne_eqb, eqb-true, ltb-true, ltb-false}
 use mir.Val.{bool_byte}
-use lib.Dec.{eqb}
+use lib.Dec.{eqb, ltb}
 use lib.ListN.{length, get_or, take, drop}
 use lib.Seq.{slice, slice-cons, slice_empty, drop-cons, drop-length, take-nil, take-take}
+use Rattle.std.specs.Prelude.{Some, None}
+use Rattle.std.specs.List.{position_or_len, position, count_by}
+use Rattle.std.proofs.lemmas.List.Recursion.{is_count_by}
 use Rattle.obligations.specs.Tests.{indicator}
 use Rattle.obligations.proofs.BoolLaws.{and_left, and_right}
 use Rattle.text.specs.Bytes.{bytes_before, occurrences, same_bytes}
@@ -38,15 +41,6 @@ slice-take s at n e h = take_drop n at (take e s) ∙ ap (drop at) (take-take (a
 
 -- ---- finding a byte
 
-pub before_here : (s : List ℕ) (k e c : ℕ) → k < e → e ≤ length s → get_or s k 0 ≡ c → bytes_before c (slice k e s) ≡ 0
-before_here s k e c h t q = rw (slice-step s k e h t, eq-eqb (get_or s k 0) c q)
-
-pub before_more : (s : List ℕ) (k e c : ℕ) → k < e → e ≤ length s → (get_or s k 0 ≡ c → ⊥) → bytes_before c (slice k e s) ≡ suc (bytes_before c (slice (k + 1) e s))
-before_more s k e c h t q = rw (slice-step s k e h t, ne_eqb (get_or s k 0) c q)
-
-pub before-end : (s : List ℕ) (k e c : ℕ) → k ≤ e → e ≤ k → bytes_before c (slice k e s) ≡ 0
-before-end s k e c h t = let q : k ≡ e = omega arith in rw (q, slice_empty e s)
-
 pub before_le : (c : ℕ) (s : List ℕ) → bytes_before c s ≤ length s
 before_le c [] = omega arith
 before_le c (b ∷ s) = go (eqb b c) (before_le c s)
@@ -55,22 +49,39 @@ before_le c (b ∷ s) = go (eqb b c) (before_le c s)
     go true h = omega arith
     go false h = omega arith
 
+-- it is where `position` finds the byte
+pub before-position : (c : ℕ) (s : List ℕ) → bytes_before c s ≡ position_or_len (λ b. eqb b c) s
+before-position c [] = refl
+before-position c (b ∷ s) = go (eqb b c) (before-position c s)
+  where
+    go : (t : Bool) → bytes_before c s ≡ position_or_len (λ b. eqb b c) s → cond t 0 (suc (bytes_before c s)) ≡ cond (not t) (1 + position_or_len (λ b. eqb b c) s) 0
+    go true ih = refl
+    go false ih = omega arith
+
+-- where it is found, and where not
+pub cut_found : (c : ℕ) (s : List ℕ) (i : ℕ) → position (λ b. eqb b c) s ≡ Some i → (bytes_before c s ≡ i) × (i < length s)
+cut_found c s i = rw (← before-position c s) (go (ltb (bytes_before c s) (length s)) refl)
+  where
+    go : (t : Bool) → ltb (bytes_before c s) (length s) ≡ t → cond t (Some (bytes_before c s)) None ≡ Some i → (bytes_before c s ≡ i) × (i < length s)
+    go true p q = let e : bytes_before c s ≡ i = cc in (e, omega (arith, ltb-true (bytes_before c s) (length s) p))
+    go false p q = absurd (cc)
+
+pub cut_none : (c : ℕ) (s : List ℕ) → position (λ b. eqb b c) s ≡ None → bytes_before c s ≡ length s
+cut_none c s = rw (← before-position c s) (go (ltb (bytes_before c s) (length s)) refl)
+  where
+    go : (t : Bool) → ltb (bytes_before c s) (length s) ≡ t → cond t (Some (bytes_before c s)) None ≡ None → bytes_before c s ≡ length s
+    go true p q = absurd (cc)
+    go false p q = omega (arith, ltb-false (bytes_before c s) (length s) p, before_le c s)
+
 -- ---- counting a byte
 
--- a test as the number that the code adds
-pub flag_indicator : (t : Bool) → bool_byte t ≡ indicator t
-flag_indicator true = refl
-flag_indicator false = refl
-
-pub indicator_le : (t : Bool) → indicator t ≤ 1
-indicator_le true = omega arith
-indicator_le false = omega arith
-
-pub occurrences-step : (s : List ℕ) (k e c : ℕ) → k < e → e ≤ length s → occurrences c (slice k e s) ≡ indicator (eqb (get_or s k 0) c) + occurrences c (slice (k + 1) e s)
-occurrences-step s k e c h t = rw (slice-step s k e h t)
-
-pub occurrences-end : (s : List ℕ) (k e c : ℕ) → k ≤ e → e ≤ k → occurrences c (slice k e s) ≡ 0
-occurrences-end s k e c h t = let q : k ≡ e = omega arith in rw (q, slice_empty e s)
+-- it is what `filter` and `count` count
+pub occurrences-count : (c : ℕ) (s : List ℕ) → occurrences c s ≡ count_by (λ b. eqb b c) s
+occurrences-count c = is_count_by (occurrences c) (λ b. eqb b c) refl (λ b s. one (eqb b c) (occurrences c s))
+  where
+    one : (t : Bool) (n : ℕ) → indicator t + n ≡ cond t (1 + n) n
+    one true n = refl
+    one false n = omega arith
 
 pub occurrences-append : (c : ℕ) (s t : List ℕ) → occurrences c (s ++ t) ≡ occurrences c s + occurrences c t
 occurrences-append c [] t = sym (zero-add (occurrences c t))
@@ -88,22 +99,6 @@ pub occurrences_none_tail : (c b : ℕ) (s : List ℕ) → occurrences c (b ∷ 
 occurrences_none_tail c b s h = omega arith
 
 -- ---- the same bytes
-
-pub same-not-length : (s t : List ℕ) → (length s ≡ length t → ⊥) → same_bytes s t ≡ false
-same-not-length [] [] h = absurd (h refl)
-same-not-length [] (b ∷ t) h = refl
-same-not-length (a ∷ s) [] h = refl
-same-not-length (a ∷ s) (b ∷ t) h = rw (same-not-length s t (λ q. h (ap suc q)), and-false (eqb a b))
-
-module _ (s t : List ℕ) (i e k : ℕ) (h : i + k < e) (u : e ≤ length s) (l : k < length t) where
-  pub same_not_here : (get_or s (i + k) 0 ≡ get_or t k 0 → ⊥) → same_bytes (slice (i + k) e s) (drop k t) ≡ false
-  same_not_here q = rw (slice-step s (i + k) e h u, drop-step t k l, ne_eqb (get_or s (i + k) 0) (get_or t k 0) q)
-
-  pub same_more : get_or s (i + k) 0 ≡ get_or t k 0 → same_bytes (slice (i + k) e s) (drop k t) ≡ same_bytes (slice (i + (k + 1)) e s) (drop (k + 1) t)
-  same_more q = rw (slice-step s (i + k) e h u, drop-step t k l, eq-eqb (get_or s (i + k) 0) (get_or t k 0) q, add_assoc i k 1)
-
-pub same_end : (s t : List ℕ) (i e k : ℕ) → i + k ≡ e → k ≡ length t → same_bytes (slice (i + k) e s) (drop k t) ≡ true
-same_end s t i e k p q = rw (p, q, slice_empty e s, drop-length t)
 
 -- the test passes exactly on equal byte strings
 pub same_refl : (s : List ℕ) → same_bytes s s ≡ true

@@ -15,26 +15,25 @@ use lib.ListN.{length}
 use Rattle.obligations.proofs.BoolLaws.{and_left, and_right}
 use Rattle.obligations.proofs.SetLaws.{lt_or_le}
 use Rattle.text.specs.Bytes.{occurrences}
-use Rattle.text.specs.Decimal.{is_digit, all_digits, value_from, value, well_led, is_number, parse_number, parse_wide, all_numbers, values, digit, decimal, print_number}
-use Rattle.text.specs.declared.decimal.Number.TheVariants.{Value, Refused}
-use Rattle.text.specs.declared.decimal.WideNumber.TheVariants as wide
+use Rattle.text.specs.Decimal.{is_digit, all_digits, value_from, value, well_led, is_number, parse_number, all_numbers, values, digit, decimal, print_number}
+use Rattle.std.specs.Prelude.{Some, None}
 use Rattle.text.proofs.DigitLaws.{value_grows, decimal-low, number_full, number_below}
 
 -- ---- what an answer says of its field
 
-pub number-value : (limit : ℕ) (s : List ℕ) (k : ℕ) → parse_number limit s ≡ Value k → (is_number limit s ≡ true) × (value s ≡ k)
+pub number-value : (limit : ℕ) (s : List ℕ) (k : ℕ) → parse_number limit s ≡ Some k → (is_number limit s ≡ true) × (value s ≡ k)
 unfolding parse_number
 number-value limit s k = go (is_number limit s)
   where
-    go : (t : Bool) → cond t (Value (value s)) Refused ≡ Value k → (t ≡ true) × (value s ≡ k)
+    go : (t : Bool) → cond t (Some (value s)) None ≡ Some k → (t ≡ true) × (value s ≡ k)
     go true q = (refl, cc)
     go false q = let z : ◌≡◌ {A = ℕ} 0 1 = cc in absurd (omega arith)
 
-pub number-refused : (limit : ℕ) (s : List ℕ) → parse_number limit s ≡ Refused → is_number limit s ≡ false
+pub number-refused : (limit : ℕ) (s : List ℕ) → parse_number limit s ≡ None → is_number limit s ≡ false
 unfolding parse_number
 number-refused limit s = go (is_number limit s)
   where
-    go : (t : Bool) → cond t (Value (value s)) Refused ≡ Refused → t ≡ false
+    go : (t : Bool) → cond t (Some (value s)) None ≡ None → t ≡ false
     go true q = let z : ◌≡◌ {A = ℕ} 0 1 = cc in absurd (omega arith)
     go false q = refl
 
@@ -42,25 +41,8 @@ pub number_most : (limit : ℕ) (s : List ℕ) → is_number limit s ≡ true �
 unfolding is_number
 number_most limit s q = leb-true (value s) limit (and_right (all_digits s) (leb (value s) limit) (and_right (well_led s) (all_digits s && leb (value s) limit) q))
 
-pub parse_most : (limit : ℕ) (s : List ℕ) (k : ℕ) → parse_number limit s ≡ Value k → k ≤ limit
+pub parse_most : (limit : ℕ) (s : List ℕ) (k : ℕ) → parse_number limit s ≡ Some k → k ≤ limit
 parse_most limit s k q = let v = number-value limit s k q in omega (arith, number_most limit s v.0, v.1)
-
--- a number of 32 bits is read as one of 64 that is within the limit
-pub wide_value : (limit : ℕ) (s : List ℕ) (k : ℕ) → parse_wide limit s ≡ wide.Value k → (parse_number limit s ≡ Value k) × (k ≤ limit)
-unfolding parse_wide parse_number
-wide_value limit s k = go (is_number limit s) refl
-  where
-    go : (t : Bool) → is_number limit s ≡ t → cond t (wide.Value (value s)) wide.Refused ≡ wide.Value k → (cond (is_number limit s) (Value (value s)) Refused ≡ Value k) × (k ≤ limit)
-    go true h q = let e : value s ≡ k = cc in (rw h (ap Value e), omega (arith, number_most limit s h, e))
-    go false h q = let z : ◌≡◌ {A = ℕ} 0 1 = cc in absurd (omega arith)
-
-pub wide_refused : (limit : ℕ) (s : List ℕ) → parse_wide limit s ≡ wide.Refused → parse_number limit s ≡ Refused
-unfolding parse_wide parse_number
-wide_refused limit s = go (is_number limit s) refl
-  where
-    go : (t : Bool) → is_number limit s ≡ t → cond t (wide.Value (value s)) wide.Refused ≡ wide.Refused → cond (is_number limit s) (Value (value s)) Refused ≡ Refused
-    go true h q = let z : ◌≡◌ {A = ℕ} 0 1 = cc in absurd (omega arith)
-    go false h q = rw h
 
 pub values_most : (limit : ℕ) (fs : List (List ℕ)) → all_numbers limit fs ≡ true → (k : ℕ) → Memᴰ k (values fs) → k ≤ limit
 values_most limit [] q k m = absurd (Memᴰ.not-nil m)
@@ -124,7 +106,7 @@ unfolding print_number
 print-value n u = decimal-value 19 n u
 
 -- reading a printed number gives the number
-pub parse_print : (limit n : ℕ) → n ≤ limit → n < 10 ^ 20 → parse_number limit (print_number n) ≡ Value n
+pub parse_print : (limit n : ℕ) → n ≤ limit → n < 10 ^ 20 → parse_number limit (print_number n) ≡ Some n
 unfolding parse_number
 parse_print limit n h u = rw (print_number_lem limit n h u, print-value n u)
 
@@ -194,7 +176,7 @@ number_printed limit s h q =
     digits_printed 19 s (and_left (well_led s) (all_digits s && leb (value s) limit) q) (and_left (all_digits s) (leb (value s) limit) r) (omega (arith, leb-true (value s) limit (and_right (all_digits s) (leb (value s) limit) r)))
 
 -- a field is read as a number exactly if it is the number's print and the number is at most the limit
-pub parse_exactly : (limit n : ℕ) (s : List ℕ) → limit < 10 ^ 20 → (parse_number limit s ≡ Value n) ↔ ((s ≡ print_number n) × (n ≤ limit))
+pub parse_exactly : (limit n : ℕ) (s : List ℕ) → limit < 10 ^ 20 → (parse_number limit s ≡ Some n) ↔ ((s ≡ print_number n) × (n ≤ limit))
 parse_exactly limit n s h = (
   (λ q. let v = number-value limit s n q in (number_printed limit s h v.0 ∙ ap print_number v.1, parse_most limit s n q)),
   (λ w. ap (parse_number limit) w.0 ∙ parse_print limit n w.1 (omega arith)),

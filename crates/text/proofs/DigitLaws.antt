@@ -9,86 +9,69 @@ use native.Mathlib.Nat.{pow-suc, one-le-pow}
 use native.Mathlib.Omega.{arith}
 use borrow.Author.Tests.{le-leb, lt-leb, eq-eqb, ne_eqb, leb-true, leb-false, lt-ltb, le-ltb}
 use lib.Dec.{leb, ltb}
-use lib.ListN.{length, get_or, length-append}
-use lib.Seq.{slice, slice_empty}
+use lib.ListN.{length, get_or, drop, length-append}
+use lib.Seq.{drop-length}
+use Rattle.std.specs.Prelude.{Option, Some, None}
 use Rattle.obligations.proofs.SetLaws.{lt_or_le}
-use Rattle.text.specs.Decimal.{is_digit, all_digits, value_from, is_empty, well_led, is_number, parse_wide, digit, decimal, print_number}
-use Rattle.text.specs.declared.decimal.WideNumber.{WideNumber}
-use Rattle.text.specs.declared.decimal.WideNumber.TheVariants.{Value, Refused}
-use Rattle.text.proofs.ByteLaws.{slice-step}
+use Rattle.text.specs.Decimal.{is_digit, all_digits, value_from, is_empty, well_led, is_number, parse_number, digit, last_digits, decimal, print_number}
+use Rattle.text.proofs.ByteLaws.{drop-step}
 
 -- ---- reading digit by digit
 
 -- digits that follow digits of value v, up to the first byte that decides
-abbrev pub digits : ℕ → ℕ → List ℕ → WideNumber
-digits limit v [] = Value v
-digits limit v (b ∷ s) = cond (is_digit b) (cond (leb (v * 10 + (b - 48)) limit) (digits limit (v * 10 + (b - 48)) s) Refused) Refused
+abbrev pub digits : ℕ → ℕ → List ℕ → Option ℕ
+digits limit v [] = Some v
+digits limit v (b ∷ s) = cond (is_digit b) (cond (leb (v * 10 + (b - 48)) limit) (digits limit (v * 10 + (b - 48)) s) None) None
 
 pub value_grows : (v : ℕ) (s : List ℕ) → v ≤ value_from v s
 value_grows v [] = omega arith
 value_grows v (b ∷ s) = omega (arith, value_grows (v * 10 + (b - 48)) s)
 
-digits_early : (limit v : ℕ) (s : List ℕ) → v ≤ limit → digits limit v s ≡ cond (all_digits s && leb (value_from v s) limit) (Value (value_from v s)) Refused
+digits_early : (limit v : ℕ) (s : List ℕ) → v ≤ limit → digits limit v s ≡ cond (all_digits s && leb (value_from v s) limit) (Some (value_from v s)) None
 digits_early limit v [] h = rw (le-leb v limit h)
 digits_early limit v (b ∷ s) h = go (is_digit b) refl (leb (v * 10 + (b - 48)) limit) refl (λ k. digits_early limit (v * 10 + (b - 48)) s k)
   where
     go : (d : Bool) → is_digit b ≡ d → (l : Bool) → leb (v * 10 + (b - 48)) limit ≡ l
         → (v * 10 + (b - 48) ≤ limit → digits limit (v * 10 + (b - 48)) s
-        ≡ cond (all_digits s && leb (value_from (v * 10 + (b - 48)) s) limit) (Value (value_from (v * 10 + (b - 48)) s)) Refused)
-        → digits limit v (b ∷ s) ≡ cond (all_digits (b ∷ s) && leb (value_from v (b ∷ s)) limit) (Value (value_from v (b ∷ s))) Refused
+        ≡ cond (all_digits s && leb (value_from (v * 10 + (b - 48)) s) limit) (Some (value_from (v * 10 + (b - 48)) s)) None)
+        → digits limit v (b ∷ s) ≡ cond (all_digits (b ∷ s) && leb (value_from v (b ∷ s)) limit) (Some (value_from v (b ∷ s))) None
     go false p l q ih = rw p
     go true p true q ih = rw (p, q) (ih (leb-true (v * 10 + (b - 48)) limit q))
     go true p false q ih = rw (p, q, lt-leb (value_from (v * 10 + (b - 48)) s) limit (omega (arith, leb-false (v * 10 + (b - 48)) limit q, value_grows (v * 10 + (b - 48)) s)), and-false (all_digits s))
 
-pub number-start : (limit : ℕ) (s : List ℕ) → well_led s ≡ true → parse_wide limit s ≡ digits limit 0 s
-unfolding parse_wide is_number
+pub number-start : (limit : ℕ) (s : List ℕ) → well_led s ≡ true → parse_number limit s ≡ digits limit 0 s
+unfolding parse_number is_number
 number-start limit s h = rw (h, digits_early limit 0 s (omega arith))
 
-pub number_ill_led : (limit : ℕ) (s : List ℕ) → well_led s ≡ false → parse_wide limit s ≡ Refused
-unfolding parse_wide is_number
+pub number_ill_led : (limit : ℕ) (s : List ℕ) → well_led s ≡ false → parse_number limit s ≡ None
+unfolding parse_number is_number
 number_ill_led limit s h = rw h
 
--- what the byte at k decides, in a number that goes on to e
-module _ (limit v : ℕ) (s : List ℕ) (k e : ℕ) (h : k < e) (t : e ≤ length s) where
-  pub digits_low : get_or s k 0 < 48 → digits limit v (slice k e s) ≡ Refused
-  digits_low l = rw (slice-step s k e h t, lt-leb 48 (get_or s k 0) l)
+-- what the byte at k decides, in a number that goes on behind it
+module _ (limit v : ℕ) (s : List ℕ) (k : ℕ) (h : k < length s) where
+  pub digits_other : is_digit (get_or s k 0) ≡ false → digits limit v (drop k s) ≡ None
+  digits_other d = rw (drop-step s k h, d)
 
-  pub digits_high : 57 < get_or s k 0 → digits limit v (slice k e s) ≡ Refused
-  digits_high l = rw (slice-step s k e h t, lt-leb (get_or s k 0) 57 l, and-false (leb 48 (get_or s k 0)))
-
-  pub digits_over : limit < v * 10 + (get_or s k 0 - 48) → digits limit v (slice k e s) ≡ Refused
-  digits_over l = rw (slice-step s k e h t, lt-leb (v * 10 + (get_or s k 0 - 48)) limit l) (go (is_digit (get_or s k 0)))
+  pub digits_over : limit < v * 10 + (get_or s k 0 - 48) → digits limit v (drop k s) ≡ None
+  digits_over l = rw (drop-step s k h, lt-leb (v * 10 + (get_or s k 0 - 48)) limit l) (go (is_digit (get_or s k 0)))
     where
-      go : (d : Bool) → cond {A = WideNumber} d Refused Refused ≡ Refused
+      go : (d : Bool) → cond {A = Option ℕ} d None None ≡ None
       go true = refl
       go false = refl
 
-  pub digits_more : 48 ≤ get_or s k 0 → get_or s k 0 ≤ 57 → v * 10 + (get_or s k 0 - 48) ≤ limit
-      → digits limit v (slice k e s) ≡ digits limit (v * 10 + (get_or s k 0 - 48)) (slice (k + 1) e s)
-  digits_more l u m = rw (slice-step s k e h t, le-leb 48 (get_or s k 0) l, le-leb (get_or s k 0) 57 u, le-leb (v * 10 + (get_or s k 0 - 48)) limit m)
+  pub digits_more : is_digit (get_or s k 0) ≡ true → v * 10 + (get_or s k 0 - 48) ≤ limit
+      → digits limit v (drop k s) ≡ digits limit (v * 10 + (get_or s k 0 - 48)) (drop (k + 1) s)
+  digits_more d m = rw (drop-step s k h, d, le-leb (v * 10 + (get_or s k 0 - 48)) limit m)
 
-pub digits_end : (limit v : ℕ) (s : List ℕ) (k e : ℕ) → k ≤ e → e ≤ k → digits limit v (slice k e s) ≡ Value v
-digits_end limit v s k e h t = let q : k ≡ e = omega arith in rw (q, slice_empty e s)
+pub digits_end : (limit v : ℕ) (s : List ℕ) → digits limit v (drop (length s) s) ≡ Some v
+digits_end limit v s = rw (drop-length s)
 
--- the first byte of a number
-pub led_none : (s : List ℕ) (e : ℕ) → well_led (slice e e s) ≡ false
-led_none s e = rw (slice_empty e s)
-
-pub led-zero : (s : List ℕ) (i e : ℕ) → i + 1 < e → e ≤ length s → get_or s i 0 ≡ 48 → well_led (slice i e s) ≡ false
-led-zero s i e h t q = rw (slice-step s i e (omega arith) t, slice-step s (i + 1) e h t, eq-eqb (get_or s i 0) 48 q)
-
-pub led_other : (s : List ℕ) (i e : ℕ) → i < e → e ≤ length s → (get_or s i 0 ≡ 48 → ⊥) → well_led (slice i e s) ≡ true
-led_other s i e h t q = rw (slice-step s i e h t, ne_eqb (get_or s i 0) 48 q) (or-true (is_empty (slice (i + 1) e s)))
-
-pub led_one : (s : List ℕ) (i e : ℕ) → i < e → e ≤ i + 1 → e ≤ length s → well_led (slice i e s) ≡ true
-led_one s i e h u t = let q : i + 1 ≡ e = omega arith in rw (slice-step s i e h t, q, slice_empty e s)
+-- the first bytes of a number
+pub led_none : (s : List ℕ) → length s < 1 → well_led s ≡ false
+led_none [] h = refl
+led_none (b ∷ s) h = absurd (omega arith)
 
 -- ---- writing digit by digit
-
--- the last k decimal digits of n
-abbrev pub last_digits : ℕ → ℕ → List ℕ
-last_digits zero n = []
-last_digits (suc k) n = last_digits k (n / 10) ++ (digit n ∷ [])
 
 pub length_last : (k n : ℕ) → length (last_digits k n) ≡ k
 length_last zero n = refl
@@ -173,33 +156,18 @@ pub number_some : (n : ℕ) → print_number n ≡ [] → ⊥
 unfolding print_number
 number_some n e = omega (arith, decimal_some 19 n, ap length e)
 
--- width digits of n are counted up to the last of rest
-pub record Counting (n width rest : ℕ) : Type 0 where
-  pub few : width ≤ 20
-  pub low : rest < 10 ^ (21 - width)
-  pub total : width + length (decimal (20 - width) rest) ≡ 1 + length (print_number n)
+-- a number of at least 10 ^ k, up to the 20 digits that are printed, has more than k digits
+decimal_above : (k f n : ℕ) → k ≤ f → 10 ^ k ≤ n → k < length (decimal f n)
+decimal_above zero f n l h = omega (arith, decimal_some f n)
+decimal_above (suc k) zero n l h = absurd (omega arith)
+decimal_above (suc k) (suc f) n l h =
+    let p : 10 ^ k * 10 ≤ n = rw (pow-suc 10 k) at h in
+    let o : 1 ≤ 10 ^ k = one-le-pow k 10 (omega arith) in
+    rw (le-ltb n 10 (omega arith)) (omega (arith, length-append (decimal f (n / 10)) (digit n ∷ []), decimal_above k f (n / 10) (omega arith) (omega arith)))
 
-pub counting-start : (n : ℕ) → n < 10 ^ 20 → Counting n 1 n
+-- the digits of a number, by the power of ten that it is not below
+pub number-width : (k n : ℕ) → k < 20 → 10 ^ k ≤ n → n < 10 * 10 ^ k → k + 1 ≡ length (print_number n)
 unfolding print_number
-counting-start n h = record { few = omega arith; low = h; total = refl }
-
-pub counting_more : (n width rest : ℕ) → Counting n width rest → 10 ≤ rest → Counting n (width + 1) (rest / 10)
-counting_more n width rest c h = ⊎_elim more last (lt_or_le width 20)
-  where
-    more : width < 20 → Counting n (width + 1) (rest / 10)
-    more l =
-        let e : 21 - width ≡ suc (20 - width) = omega arith in
-        let g : 21 - (width + 1) ≡ 20 - width = omega arith in
-        let f : 20 - width ≡ suc (20 - (width + 1)) = omega arith in
-        let u : rest < 10 ^ (20 - width) * 10 = rw (e, pow-suc 10 (20 - width)) at c.low in
-        let t : width + length (decimal (suc (20 - (width + 1))) rest) ≡ 1 + length (print_number n) = rw f at c.total in
-        record { few = omega arith; low = rw g (omega arith); total = omega (arith, decimal-high (20 - (width + 1)) rest h) }
-
-    last : 20 ≤ width → Counting n (width + 1) (rest / 10)
-    last l =
-        let w : 21 - width ≡ 1 = omega (arith, c.few) in
-        let u : rest < 10 = rw w at c.low in
-        absurd (omega arith)
-
-pub counting-end : (n width rest : ℕ) → Counting n width rest → rest < 10 → width ≡ length (print_number n)
-counting-end n width rest c h = omega (arith, c.total, ap length (decimal-low (20 - width) rest h))
+number-width k n l h u =
+    let p : n < 10 ^ suc k = rw (pow-suc 10 k) (omega arith) in
+    omega (arith, decimal_above k 19 n (omega arith) h, decimal_below k 19 n p)

@@ -10,12 +10,13 @@ use native.Mathlib.Omega.{arith}
 use borrow.Author.Tests.{eq-eqb, ne_eqb, eqb-true}
 use lib.Dec.{eqb}
 use lib.ListN.{length, take, drop}
-use lib.Seq.{slice, drop-drop, length-slice}
+use lib.Seq.{take-length}
+use Rattle.text.specs.Inner.{CutAt}
 use Rattle.obligations.specs.Tests.{indicator}
 use Rattle.obligations.proofs.SetLaws.{lt_or_le}
 use Rattle.text.specs.Bytes.{bytes_before, occurrences}
 use Rattle.text.specs.Fields.{onto, split, led, join}
-use Rattle.text.proofs.ByteLaws.{slice-take, before_le, occurrences-append, occurrences_none_head, occurrences_none_tail}
+use Rattle.text.proofs.ByteLaws.{occurrences-append, occurrences_none_head, occurrences_none_tail}
 
 -- ---- the first part, and the others
 
@@ -45,24 +46,16 @@ split_last c (b ∷ s) h = go (eqb b c) refl (split_last c s) h
     go true p ih = rw p (λ h. absurd (omega arith))
     go false p ih = rw (p, split_head c s) (λ h. ih (omega arith))
 
--- the same where the text is s[at..e] and its first part ends at j
-module _ (c : ℕ) (s : List ℕ) (at e j : ℕ) (h : at ≤ e) (t : e ≤ length s) (q : j ≡ at + bytes_before c (slice at e s)) where
-  part_end : bytes_before c (slice at e s) ≤ e - at
-  part_end = omega (arith, before_le c (slice at e s), length-slice at e s t)
+-- a text that is cut at its first separator, and one without a separator
+pub split_cut : (c : ℕ) (s before behind : List ℕ) → CutAt c s before behind → split c s ≡ before ∷ split c behind
+split_cut c s before behind k =
+    split_head c s ∙ ap (λ (l : List (List ℕ)). take (bytes_before c s) s ∷ l) (split_rest c s k.inside)
+    ∙ rw (k.before_it, k.behind_it) refl
 
-  pub part_head : split c (slice at e s) ≡ slice at j s ∷ drop 1 (split c (slice at e s))
-  part_head = split_head c (slice at e s) ∙ ap (λ (l : List ℕ). l ∷ drop 1 (split c (slice at e s))) (slice-take s at (bytes_before c (slice at e s)) e (omega (arith, part_end)) ∙ ap (λ (k : ℕ). slice at k s) (sym q))
-
-  pub part_last : j ≡ e → split c (slice at e s) ≡ slice at j s ∷ []
-  part_last u = part_head ∙ ap (λ (r : List (List ℕ)). slice at j s ∷ r) (split_last c (slice at e s) (omega (arith, length-slice at e s t)))
-
-  pub part_more : j < e → split c (slice at e s) ≡ slice at j s ∷ split c (slice (j + 1) e s)
-  part_more u =
-      let n : at + suc (bytes_before c (slice at e s)) ≡ j + 1 = omega arith in
-      part_head
-      ∙ ap (λ (r : List (List ℕ)). slice at j s ∷ r)
-      (split_rest c (slice at e s) (omega (arith, length-slice at e s t))
-      ∙ ap (split c) (drop-drop (suc (bytes_before c (slice at e s))) at (take e s) ∙ ap (λ (k : ℕ). slice k e s) n))
+pub split_uncut : (c : ℕ) (s : List ℕ) → bytes_before c s ≡ length s → split c s ≡ s ∷ []
+split_uncut c s h =
+    let t : take (bytes_before c s) s ≡ s = rw h (take-length s) in
+    split_head c s ∙ ap (λ (l : List (List ℕ)). take (bytes_before c s) s ∷ l) (split_last c s h) ∙ ap (λ (p : List ℕ). p ∷ []) t
 
 -- ---- how many parts
 
@@ -91,38 +84,6 @@ join-split c (b ∷ s) = go (eqb b c) refl (split c s) (length-split c s) (join-
 pub split_only : (c : ℕ) (p : List ℕ) → occurrences c p ≡ 0 → split c p ≡ p ∷ []
 split_only c [] h = refl
 split_only c (b ∷ p) h = rw (occurrences_none_head c b p h, split_only c p (occurrences_none_tail c b p h))
-
--- the parts of s[at..e] by how many separators it has, where the first stands at j and the next at k
-module _ (c : ℕ) (s : List ℕ) (at e j : ℕ) (h : at ≤ e) (t : e ≤ length s) (q : j ≡ at + bytes_before c (slice at e s)) where
-  rest_count : j < e → occurrences c (slice at e s) ≡ suc (occurrences c (slice (j + 1) e s))
-  rest_count u = omega (arith, length-split c (slice at e s), ap length (part_more c s at e j h t q u), length-split c (slice (j + 1) e s))
-
-  -- a part that has a separator ends before the text does
-  pub part_inside : 0 < occurrences c (slice at e s) → j < e
-  part_inside n = go (before_le c (slice at e s)) (lt_or_le j e)
-    where
-      go : bytes_before c (slice at e s) ≤ length (slice at e s) → (j < e) ⊎ (e ≤ j) → j < e
-      go b (inl u) = u
-      go b (inr u) =
-          let z : j ≡ e = omega (arith, length-slice at e s t) in
-          absurd (omega (arith, length-split c (slice at e s), ap length (part_last c s at e j h t q z)))
-
-  pub two_parts : occurrences c (slice at e s) ≡ 1 → split c (slice at e s) ≡ slice at j s ∷ slice (j + 1) e s ∷ []
-  two_parts n =
-      let u : j < e = part_inside (omega arith) in
-      part_more c s at e j h t q u ∙ ap (λ (r : List (List ℕ)). slice at j s ∷ r) (split_only c (slice (j + 1) e s) (omega (arith, rest_count u)))
-
-module _ (c : ℕ) (s : List ℕ) (at e j k : ℕ) (h : at ≤ e) (t : e ≤ length s) (q : j ≡ at + bytes_before c (slice at e s)) (r : k ≡ j + 1 + bytes_before c (slice (j + 1) e s)) where
-  pub three_parts : occurrences c (slice at e s) ≡ 2 → split c (slice at e s) ≡ slice at j s ∷ slice (j + 1) k s ∷ slice (k + 1) e s ∷ []
-  three_parts n =
-      let u : j < e = part_inside c s at e j h t q (omega arith) in
-      part_more c s at e j h t q u ∙ ap (λ (l : List (List ℕ)). slice at j s ∷ l) (two_parts c s (j + 1) e k (omega arith) t r (omega (arith, rest_count c s at e j h t q u)))
-
-  -- of two or more separators, the second stands before the end too
-  pub rest_inside : 1 < occurrences c (slice at e s) → k < e
-  rest_inside n =
-      let u : j < e = part_inside c s at e j h t q (omega arith) in
-      part_inside c s (j + 1) e k (omega arith) t r (omega (arith, rest_count c s at e j h t q u))
 
 -- ---- what was joined
 

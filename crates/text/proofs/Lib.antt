@@ -4,6 +4,7 @@ pub mod LineLaws
 pub mod FieldLaws
 pub mod DigitLaws
 pub mod DecimalLaws
+pub mod IterLaws
 pub mod WriteLaws
 pub mod StoreLaws
 pub mod MemberListLaws

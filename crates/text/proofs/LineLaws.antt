@@ -2,11 +2,14 @@
 -- are read again, by induction on the text; and a line's number is one more than the lines before it. Assumes nothing.
 use Prim.Native.Nat.{ℕ, suc, ◌+◌, ◌-◌, ◌≤◌, ◌<◌}
 use mathlib.Core.Path.{◌≡◌, refl, sym, ap, ◌∙◌}
-use mathlib.Core.Bool.{Bool, true, false, ◌&&◌}
+use mathlib.Core.Bool.{Bool, true, false, ◌&&◌, and-false, and-true}
 use mathlib.Core.List.{List, [], ◌∷◌, ◌++◌, append_assoc, Memᴰ}
 use native.Mathlib.Nat.{suc-add}
 use native.Mathlib.Omega.{arith}
-use borrow.Author.Tests.{leb-true, leb-false}
+use borrow.Author.Tests.{ne_eqb, leb-true, leb-false}
+use native.Mathlib.Decide.{ℕ_discrete as dec_eq}
+use Rattle.std.specs.List.{starts_with}
+use Rattle.std.proofs.lemmas.List.{take_rest}
 use lib.Dec.{eqb, leb}
 use lib.ListN.{length, get_or, take, drop, length-drop, drop_of_length-le}
 use lib.Seq.{slice, drop-drop, drop-cons}
@@ -17,16 +20,14 @@ use Rattle.text.proofs.ByteLaws.{drop-step, take_drop, occurrences_none_head, oc
 
 -- ---- CR LF
 
-pub crlf_short : (s : List ℕ) (k : ℕ) → length s - k < 2 → starts_cr_lf (drop k s) ≡ false
-crlf_short s k h = short (drop k s) (rw length-drop h)
-  where
-    short : (s : List ℕ) → length s < 2 → starts_cr_lf s ≡ false
-    short [] h = refl
-    short (a ∷ []) h = refl
-    short (a ∷ b ∷ s) h = absurd (omega arith)
+eqb_sym : (a b : ℕ) → eqb b a ≡ eqb a b
+eqb_sym a b = elim (dec_eq a b) [ yes e ↦ rw e | no n ↦ ne_eqb b a (λ q. n (sym q)) ∙ sym (ne_eqb a b n) ]
 
-pub crlf_step : (s : List ℕ) (k : ℕ) → 2 ≤ length s - k → starts_cr_lf (drop k s) ≡ (eqb (get_or s k 0) cr && eqb (get_or s (k + 1) 0) lf)
-crlf_step s k h = rw (drop-step s k (omega arith), drop-step s (k + 1) (omega arith))
+-- it is what `starts_with` answers
+pub starts-with_crlf : (s : List ℕ) → starts_with eqb s (cr ∷ lf ∷ []) ≡ starts_cr_lf s
+starts-with_crlf [] = refl
+starts-with_crlf (a ∷ []) = and-false (eqb cr a)
+starts-with_crlf (a ∷ b ∷ s) = rw (eqb_sym a cr, eqb_sym b lf, and-true (eqb b lf))
 
 -- ---- the end of a line
 
@@ -36,6 +37,20 @@ line-here (a ∷ s) h = rw h
 
 pub line_more : (s : List ℕ) (k : ℕ) → k < length s → starts_cr_lf (drop k s) ≡ false → line_length (drop k s) ≡ suc (line_length (drop (k + 1) s))
 line_more s k h = rw (drop-step s k h) (λ q. rw q)
+
+-- one byte further, where none is ended here: what the code tests is s[i..]
+pub line_step : (s : List ℕ) (i : ℕ) (t : Bool) → i < length s → t ≡ starts_with eqb (take (length s - i) (drop i s)) (cr ∷ lf ∷ []) → t ≡ false
+    → line_length s ≡ i + line_length (drop i s) → line_length s ≡ i + 1 + line_length (drop (i + 1) s)
+line_step s i t h e q l =
+    let r : t ≡ starts_cr_lf (drop i s) = e ∙ ap (λ (r : List ℕ). starts_with eqb r (cr ∷ lf ∷ [])) (take_rest s i) ∙ starts-with_crlf (drop i s) in
+    omega (arith, l, line_more s i h (sym r ∙ q))
+
+-- and where a line is ended here
+pub line_found : (s : List ℕ) (i : ℕ) (t : Bool) → t ≡ starts_with eqb (take (length s - i) (drop i s)) (cr ∷ lf ∷ []) → t ≡ true
+    → line_length s ≡ i + line_length (drop i s) → line_length s ≡ i
+line_found s i t e q l =
+    let r : t ≡ starts_cr_lf (drop i s) = e ∙ ap (λ (r : List ℕ). starts_with eqb r (cr ∷ lf ∷ [])) (take_rest s i) ∙ starts-with_crlf (drop i s) in
+    omega (arith, l, line-here (drop i s) (sym r ∙ q))
 
 pub line_none : (s : List ℕ) (k : ℕ) → length s ≤ k → line_length (drop k s) ≡ 0
 line_none s k h = rw (drop_of_length-le s h)
@@ -62,6 +77,11 @@ drop-next s e n m = go (leb (e + 2) (length s)) refl
         let b : length s ≤ n = omega (arith, leb-false (e + 2) (length s) q) in
         drop_of_length-le s a ∙ sym (drop_of_length-le s b)
 
+-- the first line, and the lines behind it
+pub lines_cut : (s : List ℕ) → 0 < length s → lines s ≡ take (line_length s) s ∷ lines (drop (line_length s + 2) s)
+lines_cut [] h = absurd (omega arith)
+lines_cut (a ∷ s) h = lines_cons a s
+
 -- the line that starts at i and ends at e, and the lines from n on
 pub lines_step : (s : List ℕ) (i e n : ℕ) → i < length s → e ≡ line_end s i → n ≡ next_line s e → lines (drop i s) ≡ slice i e s ∷ lines (drop n s)
 lines_step s i e n h q m =
@@ -76,6 +96,10 @@ lines_step s i e n h q m =
 
 pub lines_end : (s : List ℕ) (i : ℕ) → length s ≤ i → lines (drop i s) ≡ []
 lines_end s i h = rw (drop_of_length-le s h)
+
+-- where the line behind the first of s[at..] starts
+pub rest_starts : (s : List ℕ) (at : ℕ) → at ≤ length s → length s - length (drop (line_length (drop at s) + 2) (drop at s)) ≡ next_line s (line_end s at)
+rest_starts s at h = omega (arith, length-drop (line_length (drop at s) + 2) (drop at s), length-drop at s)
 
 -- ---- lines that were written
 

@@ -13,37 +13,34 @@ use lib.Bits.{bit_and}
 use lib.Count.{count_trailing_zeros}
 use lib.Dec.{leb, eqb}
 use lib.ListN.{length, length-append}
-use lib.Seq.{slice}
 use Rattle.obligations.specs.Sets.{member, single, union, members}
 use Rattle.obligations.proofs.BoolLaws.{false-not-true, and_left, and_right, same_test}
 use Rattle.obligations.proofs.SetLaws.{single_lt, union_lt, member_none, member-with, set_ext}
 use Rattle.obligations.proofs.MemberLaws.{members_walk, members_are, members_induct}
-use Rattle.text.specs.Bytes.{bytes_before, occurrences}
+use Rattle.text.specs.Bytes.{occurrences}
 use Rattle.text.specs.Fields.{space, split, led, join}
 use Rattle.text.specs.Decimal.{is_empty, value, is_number, parse_number, all_numbers, values, print_number}
 use Rattle.text.specs.Members.{highest, ascends_from, with_all, are_members, parse_members, print_members}
-use Rattle.text.specs.declared.decimal.Number.TheVariants as number
-use Rattle.text.specs.declared.members.Members.{Members}
-use Rattle.text.specs.declared.members.Members.TheVariants.{Set, Refused}
-use Rattle.text.proofs.FieldLaws.{part_head, part_last, part_more, split-join, join-split, length-split, join_free}
+use Rattle.std.specs.Prelude.{Option, Some, None}
+use Rattle.text.proofs.FieldLaws.{split-join, join-split, length-split, join_free}
 use Rattle.text.proofs.DigitLaws.{number_below_100}
 use Rattle.text.proofs.DecimalLaws.{number-value, number-refused, values_most, fields_printed, printed_fields, numbers_free}
 
 -- ---- reading field by field
 
 -- fields that are members of at least low, added to a set
-abbrev pub read_fields : ℕ → ℕ → List (List ℕ) → Members
-read_fields low m [] = Set m
-read_fields low m (f ∷ fs) = cond (is_number highest f) (cond (leb low (value f)) (read_fields (value f + 1) (union m (single (value f))) fs) Refused) Refused
+abbrev pub read_fields : ℕ → ℕ → List (List ℕ) → Option ℕ
+read_fields low m [] = Some m
+read_fields low m (f ∷ fs) = cond (is_number highest f) (cond (leb low (value f)) (read_fields (value f + 1) (union m (single (value f))) fs) None) None
 
-fields_all : (low m : ℕ) (fs : List (List ℕ)) → read_fields low m fs ≡ cond (all_numbers highest fs && ascends_from low (values fs)) (Set (with_all m (values fs))) Refused
+fields_all : (low m : ℕ) (fs : List (List ℕ)) → read_fields low m fs ≡ cond (all_numbers highest fs && ascends_from low (values fs)) (Some (with_all m (values fs))) None
 fields_all low m [] = refl
 fields_all low m (f ∷ fs) = go (is_number highest f) (leb low (value f)) (fields_all (value f + 1) (union m (single (value f))) fs)
   where
     go : (t l : Bool) → read_fields (value f + 1) (union m (single (value f))) fs
-        ≡ cond (all_numbers highest fs && ascends_from (value f + 1) (values fs)) (Set (with_all (union m (single (value f))) (values fs))) Refused
-        → cond t (cond l (read_fields (value f + 1) (union m (single (value f))) fs) Refused) Refused
-        ≡ cond ((t && all_numbers highest fs) && (l && ascends_from (value f + 1) (values fs))) (Set (with_all (union m (single (value f))) (values fs))) Refused
+        ≡ cond (all_numbers highest fs && ascends_from (value f + 1) (values fs)) (Some (with_all (union m (single (value f))) (values fs))) None
+        → cond t (cond l (read_fields (value f + 1) (union m (single (value f))) fs) None) None
+        ≡ cond ((t && all_numbers highest fs) && (l && ascends_from (value f + 1) (values fs))) (Some (with_all (union m (single (value f))) (values fs))) None
     go true true ih = ih
     go true false ih = rw (and-false (all_numbers highest fs))
     go false l ih = refl
@@ -52,20 +49,17 @@ pub members-start : (s : List ℕ) → parse_members s ≡ read_fields 0 0 (spli
 unfolding parse_members are_members
 members-start s = sym (fields_all 0 0 (split space s))
 
--- what the first member of a list decides, where the list is s[at..e] and the member ends at j
-module _ (s : List ℕ) (at e j low m : ℕ) (h : at ≤ e) (t : e ≤ length s) (q : j ≡ at + bytes_before space (slice at e s)) where
-  pub list_refused : parse_number highest (slice at j s) ≡ number.Refused → read_fields low m (split space (slice at e s)) ≡ Refused
-  list_refused r = rw (part_head space s at e j h t q, number-refused highest (slice at j s) r)
+-- what the first field that is left decides
+module _ (low m : ℕ) (f : List ℕ) (fs : List (List ℕ)) where
+  pub list_none : parse_number highest f ≡ None → read_fields low m (f ∷ fs) ≡ None
+  list_none r = rw (number-refused highest f r)
 
-  module _ (k : ℕ) (r : parse_number highest (slice at j s) ≡ number.Value k) where
-    pub list_low : k < low → read_fields low m (split space (slice at e s)) ≡ Refused
-    list_low l = let v = number-value highest (slice at j s) k r in rw (part_head space s at e j h t q, v.0, v.1, lt-leb low k l)
+  module _ (k : ℕ) (r : parse_number highest f ≡ Some k) where
+    pub list_low : k < low → read_fields low m (f ∷ fs) ≡ None
+    list_low l = let v = number-value highest f k r in rw (v.0, v.1, lt-leb low k l)
 
-    pub list_last : low ≤ k → j ≡ e → read_fields low m (split space (slice at e s)) ≡ Set (union m (single k))
-    list_last l u = let v = number-value highest (slice at j s) k r in rw (part_last space s at e j h t q u, v.0, v.1, le-leb low k l)
-
-    pub list_more : low ≤ k → j < e → read_fields low m (split space (slice at e s)) ≡ read_fields (k + 1) (union m (single k)) (split space (slice (j + 1) e s))
-    list_more l u = let v = number-value highest (slice at j s) k r in rw (part_more space s at e j h t q u, v.0, v.1, le-leb low k l)
+    pub list_more : low ≤ k → read_fields low m (f ∷ fs) ≡ read_fields (k + 1) (union m (single k)) fs
+    list_more l = let v = number-value highest f k r in rw (v.0, v.1, le-leb low k l)
 
 -- ---- how long a list is
 
@@ -142,18 +136,18 @@ unfolding print_members
 split-members m h u = rw (members_walk m h u) (split-join space (print_number (count_trailing_zeros 32 m)) (map print_number (members (bit_and m (m - 1)))) (numbers_free space (omega arith) (count_trailing_zeros 32 m ∷ members (bit_and m (m - 1)))))
 
 -- reading a set's printed member list gives the set; the empty set's is empty, which is no member list
-pub parse_print_members : (m : ℕ) → 0 < m → m < 2 ^ 32 → parse_members (print_members m) ≡ Set m
+pub parse_print_members : (m : ℕ) → 0 < m → m < 2 ^ 32 → parse_members (print_members m) ≡ Some m
 unfolding parse_members are_members
 parse_print_members m h u = let f = printed_fields 31 (members m) (omega arith) (λ k t. omega (arith, member_below m k t)) in rw (split-members m h u, f.0, f.1, members_ascend m, all_members m u)
 
 -- ---- what is read is the print of a set that isn't empty
 
 -- what an answer says of its list
-list_value : (s : List ℕ) (m : ℕ) → parse_members s ≡ Set m → (are_members (split space s) ≡ true) × (with_all 0 (values (split space s)) ≡ m)
+list_value : (s : List ℕ) (m : ℕ) → parse_members s ≡ Some m → (are_members (split space s) ≡ true) × (with_all 0 (values (split space s)) ≡ m)
 unfolding parse_members
 list_value s m = go (are_members (split space s))
   where
-    go : (t : Bool) → cond t (Set (with_all 0 (values (split space s)))) Refused ≡ Set m → (t ≡ true) × (with_all 0 (values (split space s)) ≡ m)
+    go : (t : Bool) → cond t (Some (with_all 0 (values (split space s)))) None ≡ Some m → (t ≡ true) × (with_all 0 (values (split space s)) ≡ m)
     go true q = (refl, cc)
     go false q = let z : ◌≡◌ {A = ℕ} 0 1 = cc in absurd (omega arith)
 
@@ -161,7 +155,7 @@ zero_or_some : (m : ℕ) → (m ≡ 0) ⊎ (0 < m)
 zero_or_some zero = inl refl
 zero_or_some (suc m) = inr (omega arith)
 
-pub parse_members_mask : (s : List ℕ) (m : ℕ) → parse_members s ≡ Set m → (0 < m) × (m < 2 ^ 32)
+pub parse_members_mask : (s : List ℕ) (m : ℕ) → parse_members s ≡ Some m → (0 < m) × (m < 2 ^ 32)
 unfolding are_members
 parse_members_mask s m q = let v = list_value s m q in go (split space s) (length-split space s) v.0 v.1
   where
@@ -209,7 +203,7 @@ members_all ks h a = same-ascending 0 0 ks (members (with_all 0 ks)) a (members_
     back : Among (members (with_all 0 ks)) ks
     back k t = ⊎_elim (λ q. absurd (false-not-true (member_none k) q)) (λ r. r) (all_member 0 ks k h ((members_are (with_all 0 ks) k).0 t).1)
 
-members_printed : (s : List ℕ) (m : ℕ) → parse_members s ≡ Set m → s ≡ print_members m
+members_printed : (s : List ℕ) (m : ℕ) → parse_members s ≡ Some m → s ≡ print_members m
 unfolding are_members print_members
 members_printed s m q =
     let fs : List (List ℕ) = split space s in
@@ -220,11 +214,11 @@ members_printed s m q =
     sym (join-split space s) ∙ ap (join space) (fields_printed 31 fs (omega arith) n ∙ ap (map print_number) e)
 
 -- a text is read as a set exactly if it is the set's printed list and the set isn't empty
-pub parse_members_exactly : (s : List ℕ) (m : ℕ) → (parse_members s ≡ Set m) ↔ ((s ≡ print_members m) × (0 < m) × (m < 2 ^ 32))
+pub parse_members_exactly : (s : List ℕ) (m : ℕ) → (parse_members s ≡ Some m) ↔ ((s ≡ print_members m) × (0 < m) × (m < 2 ^ 32))
 parse_members_exactly s m = ((λ q. let f = parse_members_mask s m q in (members_printed s m q, f.0, f.1)), (λ w. ap parse_members w.0 ∙ parse_print_members m w.1 w.2))
 
 -- a member list isn't empty
-pub members-filled : (s : List ℕ) (m : ℕ) → parse_members s ≡ Set m → is_empty s ≡ false
+pub members-filled : (s : List ℕ) (m : ℕ) → parse_members s ≡ Some m → is_empty s ≡ false
 unfolding parse_members are_members is_number
 members-filled [] m h = let z : ◌≡◌ {A = ℕ} 0 1 = cc in absurd (omega arith)
 members-filled (b ∷ s) m h = refl

@@ -1,16 +1,18 @@
--- Laws of writing. A writer's invariant is that what is still to be stored, once stored, gives the whole text; a run of
--- stores is cut where the text is. Assumes nothing.
-use Prim.Native.Nat.{ℕ, zero, suc, ◌+◌, ◌-◌, ◌≤◌, ◌<◌, ◌/◌}
-use mathlib.Core.Path.{◌≡◌, refl, sym, ap, ◌∙◌}
-use mathlib.Core.List.{List, [], ◌∷◌, ◌++◌}
-use native.Mathlib.Nat.{suc-add, add-suc, add-zero}
-use native.Mathlib.Omega.{arith}
-use lib.ListN.{length, set, get_or, drop, length-append}
-use lib.Seq.{sets, set_comm}
+-- Laws of writing: runs of stores are cut where the text is, a copied part is a run of stores, and texts that are appended one
+-- after the other are appended as one. Assumes nothing.
+use Rattle.std.proofs.Common.{ℕ, zero, suc, ◌+◌, ◌-◌, ◌≤◌, ◌<◌, ◌/◌, ◌≡◌, refl, sym, ap, ◌∙◌, List, [], ◌∷◌, ◌++◌, length, set, get_or, take, drop, arith, add-zero, zero-add, add-one, append_assoc, length-append}
+use native.Mathlib.Nat.{suc-add, add-suc}
+use mathlib.Core.List.{append-nil}
+use lib.ListN.{drop_of_length-le}
+use lib.Seq.{sets, set_comm, length-sets, drop-drop}
+use borrow.Rule.Slice.PartMut.{put_mid}
+use borrow.Rule.Slice.Mut.{set_vals}
+use Rattle.std.proofs.lemmas.List.Edits.{sets-eq}
 use Rattle.text.specs.Inner.{Wrote}
-use Rattle.text.specs.Decimal.{digit}
-use Rattle.text.proofs.ByteLaws.{drop-step}
-use Rattle.text.proofs.DigitLaws.{last_digits, length_last}
+use Rattle.text.specs.Decimal.{digit, last_digits}
+use Rattle.text.specs.Writing.{Room, Appends}
+use Rattle.text.specs.declared.out.Out.{Out}
+use Rattle.text.proofs.DigitLaws.{length_last}
 
 -- ---- runs of stores
 
@@ -19,7 +21,7 @@ sets-append l i [] ws = rw (add-zero i)
 sets-append l i (v ∷ vs) ws = sets-append (set l i v) (suc i) vs ws ∙ ap (λ (k : ℕ). sets (sets (set l i v) (suc i) vs) k ws) (suc-add i (length vs) ∙ sym (add-suc i (length vs)))
 
 -- a store behind a run may come before it
-sets-past : (l : List ℕ) (i : ℕ) (vs : List ℕ) (j a : ℕ) → i + length vs ≤ j → sets (set l j a) i vs ≡ set (sets l i vs) j a
+pub sets-past : (l : List ℕ) (i : ℕ) (vs : List ℕ) (j a : ℕ) → i + length vs ≤ j → sets (set l j a) i vs ≡ set (sets l i vs) j a
 sets-past l i [] j a h = refl
 sets-past l i (v ∷ vs) j a h =
     ap (λ (m : List ℕ). sets m (suc i) vs) (set_comm l j i a v (λ q. omega arith))
@@ -37,18 +39,40 @@ wrote_append {buf₀} {x} {buf₁} {y} {buf₂} {at} {p} {r} a b =
       bytes = b.bytes ∙ rw (a.bytes, a.next) (sym (sets-append buf₀ at x y));
     }
 
--- ---- a byte of t stored, and what is left of t
+pub appends_nothing : (o : Out) (text : List ℕ) → text ≡ [] → Appends o text o
+appends_nothing o text e = record { same_buffer = refl; wrote = wrote_nothing o.buf.now o.len text e }
 
-pub bytes-step : (buf t : List ℕ) (at j : ℕ) → j < length t → sets (set buf (at + j) (get_or t j 0)) (at + (j + 1)) (drop (j + 1) t) ≡ sets buf (at + j) (drop j t)
-bytes-step buf t at j h =
-    let e : at + (j + 1) ≡ suc (at + j) = omega arith in
-    rw (drop-step t j h, e)
+pub appends_append : {o o' o'' : Out} {x y : List ℕ} → Appends o x o' → Appends o' y o'' → Appends o (x ++ y) o''
+appends_append a b = record { same_buffer = b.same_buffer ∙ a.same_buffer; wrote = wrote_append a.wrote b.wrote }
+
+-- there is as much buffer as before, and so room for what comes next
+pub appends_length : {o o' : Out} {x : List ℕ} → Appends o x o' → length o'.buf.now ≡ length o.buf.now
+appends_length {o} {o'} {x} a = ap length a.wrote.bytes ∙ length-sets o.buf.now o.len x
+
+pub appends_room : {o o' : Out} {x : List ℕ} (y : List ℕ) → Room o (x ++ y) → Appends o x o' → Room o' y
+appends_room {o} {o'} {x} y h a = omega (arith, h, a.wrote.next, appends_length a, length-append x y)
+
+-- a part that was copied over is a run of stores
+put-sets : (xs t : List ℕ) (at k : ℕ) → at + length t ≤ length xs → k ≡ length t → put_mid at k xs t ≡ sets xs at t
+put-sets xs t at k h e =
+    rw (e, drop-drop (length t) at xs) (sym (append_assoc (take at xs) t (drop (at + length t) xs))) ∙ sym (sets-eq t xs at h)
+
+pub appends_part : (o : Out) (t ys : List ℕ) (k n : ℕ) → Room o t → ys ≡ t → k ≡ length t → n ≡ o.len + length t
+    → Appends o t (record { buf = set_vals (put_mid o.len k o.buf.now ys) o.buf; len = n })
+appends_part o t ys k n h e q m = record {
+  same_buffer = refl;
+  wrote = record { next = m; bytes = rw e (put-sets o.buf.now t o.len k h q) };
+}
 
 -- ---- the last of i digits stored, and the others after it
 
-pub digit-step : (buf : List ℕ) (at i n : ℕ) → 0 < i → sets (set buf (at + (i - 1)) (digit n)) at (last_digits (i - 1) (n / 10)) ≡ sets buf at (last_digits i n)
-digit-step buf at zero n h = absurd (omega arith)
-digit-step buf at (suc i) n h =
+pub digit-step : (buf : List ℕ) (i n : ℕ) → 0 < i → sets (set buf (i - 1) (digit n)) 0 (last_digits (i - 1) (n / 10)) ≡ sets buf 0 (last_digits i n)
+digit-step buf zero n h = absurd (omega arith)
+digit-step buf (suc i) n h =
     let e : suc i - 1 ≡ i = omega arith in
     let d : length (last_digits i (n / 10)) ≡ i = length_last i (n / 10) in
-    rw (e, sets-past buf at (last_digits i (n / 10)) (at + i) (digit n) (omega arith), sets-append buf at (last_digits i (n / 10)) (digit n ∷ []), d)
+    rw (e, sets-past buf 0 (last_digits i (n / 10)) i (digit n) (omega arith), sets-append buf 0 (last_digits i (n / 10)) (digit n ∷ []), d, zero-add i)
+
+-- a text as long as the buffer, once stored, is what the buffer holds
+pub sets_whole : (l vs : List ℕ) → length vs ≡ length l → sets l 0 vs ≡ vs
+sets_whole l vs e = let h : length l ≤ 0 + length vs = omega arith in sets-eq vs l 0 (omega arith) ∙ rw (drop_of_length-le l h) (append-nil vs)

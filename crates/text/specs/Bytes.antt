@@ -1,5 +1,5 @@
 -- Byte strings, as lists of numbers: searching, counting and comparing.
-use Rattle.std.specs.Prelude.{ℕ, suc, ◌+◌, Bool, true, false, ◌&&◌, cond, List, [], ◌∷◌, eqb}
+use Rattle.std.specs.Prelude.{ℕ, suc, ◌+◌, Bool, cond, List, [], ◌∷◌, eqb, bytes_eq}
 use Rattle.obligations.specs.Tests.{indicator}
 
 -- how many bytes stand before the first c, or before the end
@@ -12,9 +12,6 @@ abbrev pub occurrences : ℕ → List ℕ → ℕ
 occurrences c [] = 0
 occurrences c (b ∷ s) = indicator (eqb b c) + occurrences c s
 
--- whether two byte strings are the same
+-- whether two byte strings are the same: what `==` says of two slices of bytes
 abbrev pub same_bytes : List ℕ → List ℕ → Bool
-same_bytes [] [] = true
-same_bytes [] (b ∷ t) = false
-same_bytes (a ∷ s) [] = false
-same_bytes (a ∷ s) (b ∷ t) = eqb a b && same_bytes s t
+same_bytes = bytes_eq

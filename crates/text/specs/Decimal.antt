@@ -1,10 +1,6 @@
 -- Decimal numbers (01, "The tables"): a number has no leading zero, save 0. Reading knows no width: a value is a natural
 -- number and is compared with its column's limit as it is.
-use Rattle.std.specs.Prelude.{ℕ, zero, suc, ◌+◌, ◌*◌, ◌-◌, ◌/◌, ◌%◌, Bool, true, false, ◌&&◌, ◌||◌, not, cond, List, [], ◌∷◌, ◌++◌, map, leb, ltb, eqb}
-use Rattle.text.specs.declared.decimal.Number.{Number}
-use Rattle.text.specs.declared.decimal.Number.TheVariants.{Value, Refused}
-use Rattle.text.specs.declared.decimal.WideNumber.{WideNumber}
-use Rattle.text.specs.declared.decimal.WideNumber.TheVariants as wide
+use Rattle.std.specs.Prelude.{ℕ, zero, suc, ◌+◌, ◌*◌, ◌-◌, ◌/◌, ◌%◌, Bool, true, false, ◌&&◌, ◌||◌, not, cond, List, [], ◌∷◌, ◌++◌, map, leb, ltb, eqb, Option, Some, None}
 
 -- ---- reading
 
@@ -36,12 +32,9 @@ well_led (b ∷ s) = is_empty s || not (eqb b 48)
 unfoldable pub is_number : ℕ → List ℕ → Bool
 is_number limit s = well_led s && (all_digits s && leb (value s) limit)
 
-unfoldable pub parse_number : ℕ → List ℕ → Number
-parse_number limit s = cond (is_number limit s) (Value (value s)) Refused
-
--- the same as a number of 64 bits
-unfoldable pub parse_wide : ℕ → List ℕ → WideNumber
-parse_wide limit s = cond (is_number limit s) (wide.Value (value s)) wide.Refused
+-- the number that a field says, if it says one that is at most the limit
+unfoldable pub parse_number : ℕ → List ℕ → Option ℕ
+parse_number limit s = cond (is_number limit s) (Some (value s)) None
 
 -- each field is a number that is at most the limit, and their values
 abbrev pub all_numbers : ℕ → List (List ℕ) → Bool
@@ -56,6 +49,11 @@ values fs = map value fs
 -- the last digit of n
 abbrev pub digit : ℕ → ℕ
 digit n = 48 + n % 10
+
+-- the last k digits of n
+abbrev pub last_digits : ℕ → ℕ → List ℕ
+last_digits zero n = []
+last_digits (suc k) n = last_digits k (n / 10) ++ (digit n ∷ [])
 
 -- n with at most f digits before the last: the number without its last digit, and that digit
 abbrev pub decimal : ℕ → ℕ → List ℕ

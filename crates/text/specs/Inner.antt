@@ -1,15 +1,14 @@
 -- What functions on slices answer and leave: no sentence of the papers speaks of these.
-use Rattle.std.specs.Prelude.{ℕ, suc, ◌+◌, ◌≤◌, min, ◌≡◌, cond, List, [], ◌∷◌, length, drop}
-use Rattle.std.proofs.Math.Seq.{slice}
+use Rattle.std.specs.Prelude.{ℕ, suc, ◌+◌, ◌<◌, min, ◌≡◌, cond, List, [], ◌∷◌, length, take, drop}
 use Rattle.std.proofs.lemmas.List.Edits.{sets}
 use Rattle.text.specs.Bytes.{bytes_before}
 use Rattle.text.specs.Lines.{starts_cr_lf}
 
--- r is where the first c stands in s[i..e], or e if it stands nowhere there
-pub record FoundAt (s : List ℕ) (i e c r : ℕ) : Type 0 where
-  pub low : i ≤ r
-  pub high : r ≤ e
-  pub exact : r ≡ i + bytes_before c (slice i e s)
+-- a text is cut at its first c into what is before that and what is behind it
+pub record CutAt (c : ℕ) (s before behind : List ℕ) : Type 0 where
+  pub inside : bytes_before c s < length s
+  pub before_it : before ≡ take (bytes_before c s) s
+  pub behind_it : behind ≡ drop (suc (bytes_before c s)) s
 
 -- a text was written into the buffer from `at` on, and nothing else: r is the index after it
 pub record Wrote (buf₀ : List ℕ) (at : ℕ) (text buf : List ℕ) (r : ℕ) : Type 0 where
@@ -29,9 +28,3 @@ line_end s i = i + line_length (drop i s)
 
 abbrev pub next_line : List ℕ → ℕ → ℕ
 next_line s e = min (e + 2) (length s)
-
--- r is the end of the line that starts at i
-pub record LineEnd (s : List ℕ) (i r : ℕ) : Type 0 where
-  pub low : i ≤ r
-  pub high : r ≤ length s
-  pub exact : r ≡ line_end s i

@@ -1,5 +1,5 @@
 -- The definitions that the contracts of `text` cite, and the statements proved of them. A reader of 01 needs all but the last
--- file; Statements has what is proved.
+-- files; Statements has what is proved.
 pub mod Bytes
 pub mod Fields
 pub mod Lines
@@ -8,3 +8,5 @@ pub mod Members
 pub mod Statements
 -- of the code alone
 pub mod Inner
+pub mod Reading
+pub mod Writing

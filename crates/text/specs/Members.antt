@@ -1,11 +1,9 @@
 -- Member lists (01, "The tables"): activities in ascending order, separated by one space, and the set that they are.
-use Rattle.std.specs.Prelude.{ℕ, ◌+◌, ◌-◌, Bool, true, ◌&&◌, cond, List, [], ◌∷◌, map, leb}
+use Rattle.std.specs.Prelude.{ℕ, ◌+◌, ◌-◌, Bool, true, ◌&&◌, cond, List, [], ◌∷◌, map, leb, Option, Some, None}
 use Rattle.obligations.specs.Limits.{activities}
 use Rattle.obligations.specs.Sets.{single, union, members}
 use Rattle.text.specs.Fields.{space, split, join}
 use Rattle.text.specs.Decimal.{all_numbers, values, print_number}
-use Rattle.text.specs.declared.members.Members.{Members}
-use Rattle.text.specs.declared.members.Members.TheVariants.{Set, Refused}
 
 -- the highest activity
 abbrev pub highest : ℕ
@@ -25,9 +23,9 @@ with_all m (k ∷ ks) = with_all (union m (single k)) ks
 unfoldable pub are_members : List (List ℕ) → Bool
 are_members fs = all_numbers highest fs && ascends_from 0 (values fs)
 
--- the set that a member list says
-unfoldable pub parse_members : List ℕ → Members
-parse_members s = cond (are_members (split space s)) (Set (with_all 0 (values (split space s)))) Refused
+-- the set that a text says, if the text is a member list
+unfoldable pub parse_members : List ℕ → Option ℕ
+parse_members s = cond (are_members (split space s)) (Some (with_all 0 (values (split space s)))) None
 
 -- the member list of a set
 unfoldable pub print_members : ℕ → List ℕ

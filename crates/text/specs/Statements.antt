@@ -1,6 +1,6 @@
 -- What is proved of the definitions: what was written is read as it was, and nothing else is read as the same number or
 -- the same set. The proofs are in proofs/Theorems.antt.
-use Rattle.std.specs.Prelude.{ℕ, suc, ◌^◌, ◌≤◌, ◌<◌, ◌≡◌, ◌↔◌, length}
+use Rattle.std.specs.Prelude.{ℕ, suc, ◌^◌, ◌≤◌, ◌<◌, ◌≡◌, ◌↔◌, length, Some}
 use mathlib.Core.List.{List, ◌∷◌, Memᴰ}
 use Rattle.obligations.specs.Limits.{masks}
 use Rattle.text.specs.Bytes.{occurrences}
@@ -8,17 +8,15 @@ use Rattle.text.specs.Lines.{cr, lines, unlines}
 use Rattle.text.specs.Fields.{split, join}
 use Rattle.text.specs.Decimal.{parse_number, print_number}
 use Rattle.text.specs.Members.{parse_members, print_members}
-use Rattle.text.specs.declared.decimal.Number.TheVariants.{Value}
-use Rattle.text.specs.declared.members.Members.TheVariants.{Set}
 
 -- what is read as a number is that number's print and no other text: so no leading zero, no sign, no space
 abbrev pub NumberRead : Type 0
-NumberRead = (limit n : ℕ) (s : List ℕ) → limit < 10 ^ 20 → (parse_number limit s ≡ Value n) ↔ ((s ≡ print_number n) × (n ≤ limit))
+NumberRead = (limit n : ℕ) (s : List ℕ) → limit < 10 ^ 20 → (parse_number limit s ≡ Some n) ↔ ((s ≡ print_number n) × (n ≤ limit))
 
 -- what is read as a member list is that set's print and no other text: so single spaces, ascending, no number twice; the
 -- empty set's print is empty, and no member list
 abbrev pub MembersRead : Type 0
-MembersRead = (s : List ℕ) (m : ℕ) → (parse_members s ≡ Set m) ↔ ((s ≡ print_members m) × (0 < m) × (m < masks))
+MembersRead = (s : List ℕ) (m : ℕ) → (parse_members s ≡ Some m) ↔ ((s ≡ print_members m) × (0 < m) × (m < masks))
 
 -- lines that hold no CR are read as they were written
 abbrev pub LinesBack : Type 0

@@ -1,12 +1,13 @@
-// The text of the tables: bytes, lines, decimal numbers and member lists, read from a lent text by indices and written
+// The text of the tables: bytes, lines, fields, decimal numbers and member lists, read from slices of a lent text and written
 // into a lent buffer. Nothing here knows of nets or logs.
 //
-// A reader takes a text s and the part s[i..e] of it. A writer takes a buffer with room for its text, stores the text
-// from an index on, and returns the index after it.
+// A reader takes the part of a text that it reads, as a slice. `Out` is a buffer and how much of it is written.
 
 #![tactic(auto)]
 
 pub mod bytes;
 pub mod decimal;
+pub mod fields;
 pub mod lines;
 pub mod members;
+pub mod out;

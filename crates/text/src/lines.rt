@@ -1,42 +1,50 @@
 // Lines of a text: each is ended by CR LF or by the text's end.
 
-ghost use Rattle.std.specs.Prelude.{◌≡◌, ◌≤◌, length, drop};
-ghost use Rattle.text.specs.Lines.{starts_cr_lf};
-ghost use Rattle.text.specs.Inner.{LineEnd, next_line};
+ghost use Rattle.std.specs.Prelude.{◌≡◌, ◌+◌, take, drop};
+ghost use Rattle.std.specs.Iterator.{YieldsFirstRef, item_count};
+ghost use Rattle.text.specs.Inner.{line_length};
+ghost use Rattle.text.specs.Lines.{lines};
+ghost use Rattle.text.specs.Reading.{lines_left};
 
-// The end of the line that starts at i: where the first CR LF from i on stands, or the text's end.
-pub fn line_end(s: &[u8], i: usize) -> usize
-    requires { i ≤ length s.now }
-    ensures { LineEnd s.now i result }
+// The first line of s, and what is behind its CR LF.
+pub fn split_line(s: &[u8]) -> (&[u8], &[u8])
+    ensures line { result.0.now ≡ take (line_length s.now) s.now }
+    ensures rest { result.1.now ≡ drop (line_length s.now + 2) s.now }
 {
-    let mut k = i;
-    while k < s.len() {
-        if is_crlf(s, k) {
-            return k;
+    for i in 0..s.len() {
+        if s[i..].starts_with(b"\r\n") {
+            return (&s[..i], &s[i + 2..]);
         }
-        k += 1;
     }
-    k
+    (s, &s[s.len()..])
 }
 
-// Where the line after one that ends at e starts: past its CR LF, or at the text's end.
-pub fn next_line(s: &[u8], e: usize) -> usize
-    requires { e ≤ length s.now }
-    ensures { result ≡ next_line s.now e }
-{
-    if s.len() - e < 2 { s.len() } else { e + 2 }
+// The lines of `rest`.
+#[derive(Drop)]
+pub struct Lines<'a> {
+    rest: &'a [u8],
 }
 
-// Whether CR LF stands at k.
-fn is_crlf(s: &[u8], k: usize) -> bool
-    requires { k ≤ length s.now }
-    ensures { result ≡ starts_cr_lf (drop k s.now) }
+// The lines of a text.
+pub fn lines_of(text: &[u8]) -> Lines<'_>
+    ensures { lines_left result ≡ lines text.now }
 {
-    if s.len() - k < 2 {
-        return false;
+    Lines { rest: text }
+}
+
+impl<'a> Iterator for Lines<'a> {
+    type Item = &'a [u8];
+
+    ghost next_gives = { YieldsFirstRef lines_left };
+
+    ghost remaining = { item_count lines_left };
+
+    fn next(&mut self) -> Option<&'a [u8]> {
+        if self.rest.is_empty() {
+            return None;
+        }
+        let (line, rest) = split_line(self.rest);
+        self.rest = rest;
+        Some(line)
     }
-    if s[k] != b'\r' {
-        return false;
-    }
-    s[k + 1] == b'\n'
 }

@@ -1,21 +1,7 @@
--- `read_number` meets its contract: what is within a limit of 32 bits is the same number in both widths. Assumes nothing.
-use mathlib.Core.Path.{sym, ◌∙◌}
-use native.Mathlib.Omega.{arith}
-use lib.Seq.{slice}
-use Rattle.text.proofs.DecimalLaws.{wide_value, wide_refused}
+-- `read_number` meets its contract: what is within a limit of 32 bits has 32 bits. Assumes nothing.
+use Rattle.std.proofs.Common.{sym, arith}
+use Rattle.text.proofs.DecimalLaws.{parse_most}
 use Rattle.text.proofs.decimal.read_number.Goals as goal
 
 pub overflow_cast-result : goal.overflow_cast-result
-overflow_cast-result c =
-    let a = c.args in
-    omega (arith, (wide_value a.limit (slice a.i a.e a.s.now) c.in-Value.v (sym c.read_wide-read.ensures ∙ c.in-Value.is)).1)
-
-pub returns-in-Value : goal.returns-in-Value
-returns-in-Value c =
-    let a = c.args in
-    sym (wide_value a.limit (slice a.i a.e a.s.now) c.in-Value.v (sym c.read_wide-read.ensures ∙ c.in-Value.is)).0
-
-pub returns-in-Refused : goal.returns-in-Refused
-returns-in-Refused c =
-    let a = c.args in
-    sym (wide_refused a.limit (slice a.i a.e a.s.now) (sym c.read_wide-read.ensures ∙ c.in-Refused.is))
+overflow_cast-result c = omega (arith, parse_most c.from.result c.args.field.now c.in_ok-v.v (sym c.in_ok-v.ensures))

@@ -1,12 +1,7 @@
-use Prim.Native.Nat.{◌-◌, ◌≤◌}
-use mathlib.Core.Path.{◌≡◌}
-use lib.Seq.{slice}
-use Rattle.text.specs.Decimal.{parse_wide}
+use Rattle.std.proofs.Common.{◌≡◌, ◌≤◌, drop}
+use Rattle.text.specs.Decimal.{parse_number}
 use Rattle.text.proofs.DigitLaws.{digits}
 use Rattle.text.proofs.decimal.read_wide.Given as goal
 
-abbrev pub invariant-loop-k : goal.invariant-loop-k
-invariant-loop-k l = (l.k ≤ l.e) × (l.v ≤ l.limit) × (parse_wide l.limit (slice l.i l.e l.s) ≡ digits l.limit l.v (slice l.k l.e l.s))
-
-abbrev pub decreases-loop-k : goal.decreases-loop-k
-decreases-loop-k l = l.e - l.k
+abbrev pub invariant-loop-b : goal.invariant-loop-b
+invariant-loop-b l = (l.v ≤ l.limit) × (parse_number l.limit l.field ≡ digits l.limit l.v (drop l.b-index l.field))

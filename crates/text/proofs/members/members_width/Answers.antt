@@ -1,34 +1,27 @@
--- `members_width` meets its contract. The loop's invariant: the bytes counted and those of the members left are the list's. Assumes nothing.
-use mathlib.Core.Path.{sym, ap, ◌∙◌}
-use native.Mathlib.Omega.{arith}
-use borrow.Author.Rules.{rules}
-use lib.ListN.{length}
-use Rattle.text.specs.Members.{print_members}
-use Rattle.text.proofs.MemberWriteLaws.{print_none, counted_start, counted_short, counted_more, counted-end}
+-- `members_width` meets its contract. The loop's invariant: the bytes counted and those of the members left are the list's.
+-- Assumes nothing.
+use Rattle.std.proofs.Common.{◌+◌, ◌≡◌, ◌∷◌, sym, ap, ◌∙◌, length, arith}
+use Rattle.obligations.specs.Sets.{members}
+use Rattle.text.specs.Decimal.{print_number}
+use Rattle.text.proofs.DigitLaws.{number-within}
+use Rattle.text.proofs.MemberListLaws.{members_short}
+use Rattle.text.proofs.MemberWriteLaws.{print_none, length_first}
 use Rattle.text.proofs.members.members_width.Goals as goal
 
-pub returns-then-set-eq0 : goal.returns-then-set-eq0
-returns-then-set-eq0 c = sym (ap length (ap print_members c.if-set-eq0.true ∙ print_none))
+pub returns-in_default : goal.returns-in_default
+returns-in_default c =
+    sym (ap length (print_none c.args.set (ap members (sym c.members-others.ensures) ∙ c.in_default.ensures.steps.0)))
 
-pub loop-rest-init : goal.loop-rest-init
-loop-rest-init c = counted_start c.args.set c.number_width-width.result (search rules) (search rules) c.number_width-width.ensures
+pub loop-k-init : goal.loop-k-init
+loop-k-init c =
+    let e : members c.args.set ≡ c.in-Some.first ∷ members c.next.new.self.rest = ap members (sym c.members-others.ensures) ∙ c.in-Some.ensures.steps in
+    let w : c.number_width-width.result ≡ length (print_number c.in-Some.first) = c.number_width-width.ensures ∙ ap (λ k. length (print_number k)) c.from.ensures in
+    let i = c.into_iter-k-iterator.ensures.into_iter_gives in
+    rw i (omega (arith, length_first c.args.set _ _ e, w))
 
 pub overflow_add-width : goal.overflow_add-width
-overflow_add-width c =
-    let l = c.loop-rest in
-    omega (arith, counted_short c.args.set l.width l.rest c.number_width.result l.invariant (search rules) c.number_width.ensures)
+overflow_add-width c = omega (arith, c.number_width.ensures, number-within c.from-in-loop-k.result)
 
-pub overflow_add-width-in-loop-rest : goal.overflow_add-width-in-loop-rest
-overflow_add-width-in-loop-rest c =
-    let l = c.loop-rest in
-    omega (arith, counted_short c.args.set l.width l.rest c.number_width.result l.invariant (search rules) c.number_width.ensures)
-
-pub loop-rest-preserved : goal.loop-rest-preserved
-loop-rest-preserved c =
-    let l = c.loop-rest in
-    counted_more c.args.set l.width l.rest c.number_width.result l.invariant (search rules) c.number_width.ensures
-
-pub returns : goal.returns
-returns c =
-    let l = c.loop-rest in
-    counted-end c.args.set l.width l.rest l.invariant c.loop-rest-test.false
+pub overflow_add-width-in-loop-k : goal.overflow_add-width-in-loop-k
+overflow_add-width-in-loop-k c =
+    omega (arith, c.number_width.ensures, number-within c.from-in-loop-k.result, c.loop-k.invariant, members_short c.args.set)

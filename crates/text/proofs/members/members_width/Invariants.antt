@@ -1,8 +1,8 @@
-use Rattle.text.proofs.MemberWriteLaws.{Counted}
+use Rattle.std.proofs.Common.{◌≡◌, ◌+◌, length}
+use Rattle.obligations.specs.Sets.{members}
+use Rattle.text.specs.Members.{print_members}
+use Rattle.text.proofs.MemberWriteLaws.{spaced}
 use Rattle.text.proofs.members.members_width.Given as goal
 
-abbrev pub invariant-loop-rest : goal.invariant-loop-rest
-invariant-loop-rest l = Counted l.set l.width l.rest
-
-abbrev pub decreases-loop-rest : goal.decreases-loop-rest
-decreases-loop-rest l = l.rest
+abbrev pub invariant-loop-k : goal.invariant-loop-k
+invariant-loop-k l = l.width + length (spaced (members l.k-iterator.rest)) ≡ length (print_members l.set)

@@ -1,51 +1,30 @@
 -- `read_members` meets its contract. The loop's invariant: what the list says is what the fields left say after the set so
 -- far, with the lowest member still allowed. Assumes nothing.
-use Prim.Native.Nat.{ℕ, ◌+◌, ◌≤◌}
-use mathlib.Core.Path.{sym, ap, ◌∙◌}
-use native.Mathlib.Omega.{arith}
-use borrow.Author.Rules.{rules}
-use lib.Seq.{slice}
-use Rattle.text.specs.Fields.{space, split}
-use Rattle.text.specs.declared.members.Members.TheVariants.{Set}
+use Rattle.std.proofs.Common.{sym, ◌∙◌, ◌+◌, ap, arith}
+use Rattle.text.specs.Reading.{fields_left}
 use Rattle.text.proofs.DecimalLaws.{parse_most}
-use Rattle.text.proofs.MemberListLaws.{read_fields, members-start, list_refused, list_low, list_last, list_more}
+use Rattle.text.proofs.MemberListLaws.{read_fields, members-start, list_none, list_low, list_more}
 use Rattle.text.proofs.members.read_members.Goals as goal
 
-pub loop-k-init : goal.loop-k-init
-loop-k-init c =
-    let a = c.args in
-    (search rules, members-start (slice a.i a.e a.s.now))
+pub loop-field-init : goal.loop-field-init
+loop-field-init c =
+    members-start c.args.list.now ∙ ap (read_fields 0 0) (sym c.split-field-items.ensures ∙ ap fields_left (sym c.into_iter-field-iterator.ensures.into_iter_gives))
 
-pub returns-in_default : goal.returns-in_default
-returns-in_default c =
-    let a = c.args in
-    let l = c.loop-k in
-    let f = c.find_byte-j in
-    sym (l.invariant.1 ∙ list_refused a.s.now l.at a.e f.result l.low l.set (search rules) (search rules) f.ensures.exact (rw c.read_number-n.ensures at c.in_default.is))
+pub returns-in_err-k : goal.returns-in_err-k
+returns-in_err-k c =
+    let l = c.loop-field in
+    c.from_residual.ensures ∙ sym (l.invariant ∙ ap (read_fields l.low l.set) c.in-Some.ensures.steps ∙ list_none l.low l.set _ _ (sym c.in_err-k.ensures))
 
 pub returns-then-k-low : goal.returns-then-k-low
 returns-then-k-low c =
-    let a = c.args in
-    let l = c.loop-k in
-    let f = c.find_byte-j in
-    sym (l.invariant.1 ∙ list_low a.s.now l.at a.e f.result l.low l.set (search rules) (search rules) f.ensures.exact c.in-Value.k (rw c.read_number-n.ensures at c.in-Value.is) c.if-k-low.true)
+    let l = c.loop-field in
+    sym (l.invariant ∙ ap (read_fields l.low l.set) c.in-Some.ensures.steps ∙ list_low l.low l.set _ _ _ (sym c.in_ok-k.ensures) c.if-k-low.true)
 
 pub overflow_add-low : goal.overflow_add-low
-overflow_add-low c =
-    let member-most : c.in-Value.k ≤ 31 =
-    parse_most 31 _ _ (rw c.read_number-n.ensures at c.in-Value.is) in
-    omega (arith, member-most)
+overflow_add-low c = omega (arith, parse_most _ _ _ (sym c.in_ok-k.ensures))
 
-pub returns-then-j-e : goal.returns-then-j-e
-returns-then-j-e c =
-    let a = c.args in
-    let l = c.loop-k in
-    let f = c.find_byte-j in
-    sym (l.invariant.1 ∙ list_last a.s.now l.at a.e f.result l.low l.set (search rules) (search rules) f.ensures.exact c.in-Value.k (rw c.read_number-n.ensures at c.in-Value.is) (search rules) c.if-j-e.true ∙ ap Set (sym c.with-set.ensures))
-
-pub loop-k-preserved : goal.loop-k-preserved
-loop-k-preserved c =
-    let a = c.args in
-    let l = c.loop-k in
-    let f = c.find_byte-j in
-    (search rules, l.invariant.1 ∙ list_more a.s.now l.at a.e f.result l.low l.set (search rules) (search rules) f.ensures.exact c.in-Value.k (rw c.read_number-n.ensures at c.in-Value.is) (search rules) (search rules) ∙ ap (λ (m : ℕ). read_fields (c.in-Value.k + 1) m (split space (slice (f.result + 1) a.e a.s.now))) (sym c.with-set.ensures))
+pub loop-field-preserved : goal.loop-field-preserved
+loop-field-preserved c =
+    let l = c.loop-field in
+    l.invariant ∙ ap (read_fields l.low l.set) c.in-Some.ensures.steps ∙ list_more l.low l.set _ _ _ (sym c.in_ok-k.ensures) c.if-k-low.false
+    ∙ ap (λ m. read_fields (c.in_ok-k.k + 1) m (fields_left c.next.new.self)) (sym c.with-set.ensures)
