@@ -3,16 +3,15 @@
 use Prim.Native.Nat.{ℕ, zero, suc, ◌+◌, ◌≤◌, ◌<◌}
 use mathlib.Core.Path.{◌≡◌, refl, sym, ap, ap₂, ◌∙◌}
 use mathlib.Core.Logic.{◌↔◌}
-use mathlib.Core.Bool.{Bool, true, false, not, and-false, cond, false≢true}
+use mathlib.Core.Bool.{Bool, true, false, not, cond, false≢true}
 use mathlib.Core.List.{List, [], ◌∷◌, ◌++◌}
-use native.Mathlib.Nat.{add_assoc, zero-add, suc-add}
+use native.Mathlib.Nat.{zero-add, suc-add}
 use native.Mathlib.Numerals.{add-one}
 use native.Mathlib.Omega.{arith}
-use borrow.Author.Tests.{eq-eqb, ne_eqb, eqb-true, ltb-true, ltb-false}
-use mir.Val.{bool_byte}
+use borrow.Author.Tests.{eq-eqb, eqb-true, ltb-true, ltb-false}
 use lib.Dec.{eqb, ltb}
 use lib.ListN.{length, get_or, take, drop}
-use lib.Seq.{slice, slice-cons, slice_empty, drop-cons, drop-length, take-nil, take-take}
+use lib.Seq.{slice, slice-cons, drop-cons, take-nil}
 use Rattle.std.specs.Prelude.{Some, None}
 use Rattle.std.specs.List.{position_or_len, position, count_by}
 use Rattle.std.proofs.lemmas.List.Recursion.{is_count_by}
@@ -35,9 +34,6 @@ pub take_drop : (n at : ℕ) (s : List ℕ) → take n (drop at s) ≡ drop at (
 take_drop n zero s = rw zero-add
 take_drop n (suc at) [] = take-nil n ∙ sym (ap (drop (suc at)) (take-nil (suc at + n)))
 take_drop n (suc at) (b ∷ s) = rw (suc-add at n) (take_drop n at s)
-
-pub slice-take : (s : List ℕ) (at n e : ℕ) → at + n ≤ e → take n (slice at e s) ≡ slice at (at + n) s
-slice-take s at n e h = take_drop n at (take e s) ∙ ap (drop at) (take-take (at + n) e s h)
 
 -- ---- finding a byte
 

@@ -2,19 +2,15 @@
 -- further digits; writing goes from the last digit to the first, as many as there are. Assumes nothing.
 use Prim.Native.Nat.{ℕ, zero, suc, ◌+◌, ◌*◌, ◌-◌, ◌≤◌, ◌<◌, ◌^◌, ◌/◌}
 use mathlib.Core.Path.{◌≡◌, refl, ap, ◌∙◌}
-use mathlib.Core.Logic.{⊎_elim}
-use mathlib.Core.Bool.{Bool, true, false, ◌&&◌, and-false, or-true, cond}
+use mathlib.Core.Bool.{Bool, true, false, ◌&&◌, and-false, cond}
 use mathlib.Core.List.{List, [], ◌∷◌, ◌++◌}
 use native.Mathlib.Nat.{pow-suc, one-le-pow}
 use native.Mathlib.Omega.{arith}
-use borrow.Author.Tests.{le-leb, lt-leb, eq-eqb, ne_eqb, leb-true, leb-false, lt-ltb, le-ltb}
+use borrow.Author.Tests.{le-leb, lt-leb, leb-true, leb-false, lt-ltb, le-ltb}
 use lib.Dec.{leb, ltb}
-use lib.ListN.{length, get_or, drop, length-append}
-use lib.Seq.{drop-length}
+use lib.ListN.{length, length-append}
 use Rattle.std.specs.Prelude.{Option, Some, None}
-use Rattle.obligations.proofs.SetLaws.{lt_or_le}
-use Rattle.text.specs.Decimal.{is_digit, all_digits, value_from, is_empty, well_led, is_number, parse_number, digit, last_digits, decimal, print_number}
-use Rattle.text.proofs.ByteLaws.{drop-step}
+use Rattle.text.specs.Decimal.{is_digit, all_digits, value_from, well_led, is_number, parse_number, digit, last_digits, decimal, print_number}
 
 -- ---- reading digit by digit
 
@@ -47,30 +43,6 @@ pub number_ill_led : (limit : ℕ) (s : List ℕ) → well_led s ≡ false → p
 unfolding parse_number is_number
 number_ill_led limit s h = rw h
 
--- what the byte at k decides, in a number that goes on behind it
-module _ (limit v : ℕ) (s : List ℕ) (k : ℕ) (h : k < length s) where
-  pub digits_other : is_digit (get_or s k 0) ≡ false → digits limit v (drop k s) ≡ None
-  digits_other d = rw (drop-step s k h, d)
-
-  pub digits_over : limit < v * 10 + (get_or s k 0 - 48) → digits limit v (drop k s) ≡ None
-  digits_over l = rw (drop-step s k h, lt-leb (v * 10 + (get_or s k 0 - 48)) limit l) (go (is_digit (get_or s k 0)))
-    where
-      go : (d : Bool) → cond {A = Option ℕ} d None None ≡ None
-      go true = refl
-      go false = refl
-
-  pub digits_more : is_digit (get_or s k 0) ≡ true → v * 10 + (get_or s k 0 - 48) ≤ limit
-      → digits limit v (drop k s) ≡ digits limit (v * 10 + (get_or s k 0 - 48)) (drop (k + 1) s)
-  digits_more d m = rw (drop-step s k h, d, le-leb (v * 10 + (get_or s k 0 - 48)) limit m)
-
-pub digits_end : (limit v : ℕ) (s : List ℕ) → digits limit v (drop (length s) s) ≡ Some v
-digits_end limit v s = rw (drop-length s)
-
--- the first bytes of a number
-pub led_none : (s : List ℕ) → length s < 1 → well_led s ≡ false
-led_none [] h = refl
-led_none (b ∷ s) h = absurd (omega arith)
-
 -- ---- writing digit by digit
 
 pub length_last : (k n : ℕ) → length (last_digits k n) ≡ k
@@ -99,9 +71,6 @@ number_last n = decimal_last 19 n
 pub decimal-low : (f n : ℕ) → n < 10 → decimal f n ≡ digit n ∷ []
 decimal-low zero n h = refl
 decimal-low (suc f) n h = rw (lt-ltb n 10 h)
-
-decimal-high : (f n : ℕ) → 10 ≤ n → length (decimal (suc f) n) ≡ suc (length (decimal f (n / 10)))
-decimal-high f n h = rw (le-ltb n 10 h) (length-append (decimal f (n / 10)) (digit n ∷ []) ∙ omega arith)
 
 -- one digit, or one more than the number without its last has
 last_digit : (t : Bool) (f n k : ℕ) → length (decimal f (n / 10)) ≤ k → length (cond t (digit n ∷ []) (decimal f (n / 10) ++ (digit n ∷ []))) ≤ suc k

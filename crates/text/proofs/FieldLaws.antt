@@ -1,9 +1,9 @@
 -- Laws of fields: the first part ends at the first separator and the others follow it, there is one part more than
 -- separators, the parts joined again are the text, and what was joined is split again. By induction on the text. Assumes
 -- nothing.
-use Prim.Native.Nat.{ℕ, suc, ◌+◌, ◌-◌, ◌≤◌, ◌<◌}
+use Prim.Native.Nat.{ℕ, suc, ◌+◌, ◌<◌}
 use mathlib.Core.Path.{◌≡◌, refl, sym, ap, ◌∙◌}
-use mathlib.Core.Logic.{◌↔◌, ◌⊎◌, inl, inr}
+use mathlib.Core.Logic.{◌↔◌}
 use mathlib.Core.Bool.{Bool, true, false, cond}
 use mathlib.Core.List.{List, [], ◌∷◌, ◌++◌, append-nil, Memᴰ}
 use native.Mathlib.Omega.{arith}
@@ -13,7 +13,6 @@ use lib.ListN.{length, take, drop}
 use lib.Seq.{take-length}
 use Rattle.text.specs.Inner.{CutAt}
 use Rattle.obligations.specs.Tests.{indicator}
-use Rattle.obligations.proofs.SetLaws.{lt_or_le}
 use Rattle.text.specs.Bytes.{bytes_before, occurrences}
 use Rattle.text.specs.Fields.{onto, split, led, join}
 use Rattle.text.proofs.ByteLaws.{occurrences-append, occurrences_none_head, occurrences_none_tail}

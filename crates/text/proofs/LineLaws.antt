@@ -2,7 +2,7 @@
 -- are read again, by induction on the text; and a line's number is one more than the lines before it. Assumes nothing.
 use Prim.Native.Nat.{ℕ, suc, ◌+◌, ◌-◌, ◌≤◌, ◌<◌}
 use mathlib.Core.Path.{◌≡◌, refl, sym, ap, ◌∙◌}
-use mathlib.Core.Bool.{Bool, true, false, ◌&&◌, and-false, and-true}
+use mathlib.Core.Bool.{Bool, true, false, and-false, and-true}
 use mathlib.Core.List.{List, [], ◌∷◌, ◌++◌, append_assoc, Memᴰ}
 use native.Mathlib.Nat.{suc-add}
 use native.Mathlib.Omega.{arith}
@@ -44,13 +44,6 @@ pub line_step : (s : List ℕ) (i : ℕ) (t : Bool) → i < length s → t ≡ s
 line_step s i t h e q l =
     let r : t ≡ starts_cr_lf (drop i s) = e ∙ ap (λ (r : List ℕ). starts_with eqb r (cr ∷ lf ∷ [])) (take_rest s i) ∙ starts-with_crlf (drop i s) in
     omega (arith, l, line_more s i h (sym r ∙ q))
-
--- and where a line is ended here
-pub line_found : (s : List ℕ) (i : ℕ) (t : Bool) → t ≡ starts_with eqb (take (length s - i) (drop i s)) (cr ∷ lf ∷ []) → t ≡ true
-    → line_length s ≡ i + line_length (drop i s) → line_length s ≡ i
-line_found s i t e q l =
-    let r : t ≡ starts_cr_lf (drop i s) = e ∙ ap (λ (r : List ℕ). starts_with eqb r (cr ∷ lf ∷ [])) (take_rest s i) ∙ starts-with_crlf (drop i s) in
-    omega (arith, l, line-here (drop i s) (sym r ∙ q))
 
 pub line_none : (s : List ℕ) (k : ℕ) → length s ≤ k → line_length (drop k s) ≡ 0
 line_none s k h = rw (drop_of_length-le s h)

@@ -1,6 +1,6 @@
 -- Laws for writing a member list: the lowest member first, then each of the others after a space, until none is left.
 -- Assumes nothing.
-use Rattle.std.proofs.Common.{ℕ, ◌+◌, ◌≤◌, ◌≡◌, refl, sym, ap, ◌∙◌, List, [], ◌∷◌, ◌++◌, length, arith, length-append}
+use Rattle.std.proofs.Common.{ℕ, ◌+◌, ◌≡◌, ap, ◌∙◌, List, [], ◌∷◌, ◌++◌, length, length-append}
 use mathlib.Core.List.{map}
 use Rattle.obligations.specs.Sets.{members}
 use Rattle.text.specs.Fields.{space, led}
@@ -21,6 +21,3 @@ print_first m k ks e = rw e
 
 pub length_first : (m k : ℕ) (ks : List ℕ) → members m ≡ k ∷ ks → length (print_members m) ≡ length (print_number k) + length (spaced ks)
 length_first m k ks e = ap length (print_first m k ks e) ∙ length-append (print_number k) (spaced ks)
-
-pub length_next : (k : ℕ) (ks : List ℕ) → length (spaced (k ∷ ks)) ≡ 1 + length (print_number k) + length (spaced ks)
-length_next k ks = omega (arith, length-append (print_number k) (spaced ks))

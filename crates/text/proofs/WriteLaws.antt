@@ -1,12 +1,11 @@
 -- Laws of writing: runs of stores are cut where the text is, a copied part is a run of stores, and texts that are appended one
 -- after the other are appended as one. Assumes nothing.
-use Rattle.std.proofs.Common.{ℕ, zero, suc, ◌+◌, ◌-◌, ◌≤◌, ◌<◌, ◌/◌, ◌≡◌, refl, sym, ap, ◌∙◌, List, [], ◌∷◌, ◌++◌, length, set, get_or, take, drop, arith, add-zero, zero-add, add-one, append_assoc, length-append}
+use Rattle.std.proofs.Common.{ℕ, zero, suc, ◌+◌, ◌-◌, ◌≤◌, ◌<◌, ◌/◌, ◌≡◌, refl, sym, ap, ◌∙◌, List, [], ◌∷◌, ◌++◌, length, set, take, drop, arith, add-zero, zero-add, append_assoc, length-append}
 use native.Mathlib.Nat.{suc-add, add-suc}
 use mathlib.Core.List.{append-nil}
 use lib.ListN.{drop_of_length-le}
 use lib.Seq.{sets, set_comm, length-sets, drop-drop}
 use borrow.Rule.Slice.PartMut.{put_mid}
-use borrow.Rule.Slice.Mut.{set_vals}
 use Rattle.std.proofs.lemmas.List.Edits.{sets-eq}
 use Rattle.text.specs.Inner.{Wrote}
 use Rattle.text.specs.Decimal.{digit, last_digits}
@@ -57,11 +56,11 @@ put-sets : (xs t : List ℕ) (at k : ℕ) → at + length t ≤ length xs → k 
 put-sets xs t at k h e =
     rw (e, drop-drop (length t) at xs) (sym (append_assoc (take at xs) t (drop (at + length t) xs))) ∙ sym (sets-eq t xs at h)
 
-pub appends_part : (o : Out) (t ys : List ℕ) (k n : ℕ) → Room o t → ys ≡ t → k ≡ length t → n ≡ o.len + length t
-    → Appends o t (record { buf = set_vals (put_mid o.len k o.buf.now ys) o.buf; len = n })
-appends_part o t ys k n h e q m = record {
-  same_buffer = refl;
-  wrote = record { next = m; bytes = rw e (put-sets o.buf.now t o.len k h q) };
+pub appends_part : (o o' : Out) (t ys : List ℕ) (k : ℕ) → Room o t → ys ≡ t → k ≡ length t
+    → o'.buf.ghost_name ≡ o.buf.ghost_name → o'.buf.now ≡ put_mid o.len k o.buf.now ys → o'.len ≡ o.len + length t → Appends o t o'
+appends_part o o' t ys k h e q g b m = record {
+  same_buffer = g;
+  wrote = record { next = m; bytes = b ∙ rw e (put-sets o.buf.now t o.len k h q) };
 }
 
 -- ---- the last of i digits stored, and the others after it

@@ -1,6 +1,6 @@
 // A buffer that is written from its front on.
 
-ghost use Rattle.std.specs.Prelude.{◌≡◌, length};
+ghost use Rattle.std.specs.Prelude.{◌≡◌, ◌+◌, ◌≤◌, length, take};
 ghost use Rattle.text.specs.Decimal.{last_digits, print_number};
 
 use super::decimal::number_width;
@@ -10,6 +10,7 @@ use super::decimal::number_width;
 pub struct Out<'a> {
     buf: &'a mut [u8],
     len: usize,
+    ghost in_buffer: { len ≤ length buf.now },
 }
 
 impl<'a> Out<'a> {
@@ -29,6 +30,20 @@ impl<'a> Out<'a> {
         ensures { result ≡ self.now.len }
     {
         self.len
+    }
+
+    // How many bytes there is room for.
+    pub fn room(&self) -> usize
+        ensures { self.now.len + result ≡ length self.now.buf.now }
+    {
+        self.buf.len() - self.len
+    }
+
+    // What is written.
+    pub fn written(&self) -> &[u8]
+        ensures { result.now ≡ take self.now.len self.now.buf.now }
+    {
+        &self.buf[..self.len]
     }
 
     // Writes t.

@@ -1,6 +1,6 @@
 -- `number_width` meets its contract: a number between two powers of ten has one digit more than the lower power's exponent.
 -- Assumes nothing.
-use Rattle.std.proofs.Common.{rules, ap, sym, ◌∙◌, length}
+use Rattle.std.proofs.Common.{ap, sym, length}
 use Rattle.text.specs.Decimal.{print_number}
 use Rattle.text.proofs.DigitLaws.{number-width}
 use Rattle.text.proofs.decimal.number_width.Goals as goal

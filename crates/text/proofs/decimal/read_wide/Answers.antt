@@ -1,6 +1,6 @@
 -- `read_wide` meets its contract. The loop's invariant: what the field says is what the digits left say after the value so
 -- far. Assumes nothing.
-use Rattle.std.proofs.Common.{sym, ◌∙◌, arith}
+use Rattle.std.proofs.Common.{sym, arith}
 use Rattle.text.proofs.DigitLaws.{number-start, number_ill_led}
 use Rattle.text.proofs.decimal.read_wide.Goals as goal
 

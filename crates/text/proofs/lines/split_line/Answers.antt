@@ -1,6 +1,5 @@
 -- `split_line` meets its contract. The loop's invariant: the line goes on for as many bytes as are passed and the line that is
 -- left. Assumes nothing.
-use Rattle.std.proofs.Common.{arith, rules}
 use Rattle.text.proofs.LineLaws.{line_step}
 use Rattle.text.proofs.lines.split_line.Goals as goal
 

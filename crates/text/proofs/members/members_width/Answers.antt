@@ -1,6 +1,6 @@
 -- `members_width` meets its contract. The loop's invariant: the bytes counted and those of the members left are the list's.
 -- Assumes nothing.
-use Rattle.std.proofs.Common.{◌+◌, ◌≡◌, ◌∷◌, sym, ap, ◌∙◌, length, arith}
+use Rattle.std.proofs.Common.{◌≡◌, ◌∷◌, sym, ap, ◌∙◌, length, arith}
 use Rattle.obligations.specs.Sets.{members}
 use Rattle.text.specs.Decimal.{print_number}
 use Rattle.text.proofs.DigitLaws.{number-within}

@@ -1,5 +1,5 @@
 -- `next` meets what the iterator claims: a text that isn't empty has a first line, and the lines behind it. Assumes nothing.
-use Rattle.std.proofs.Common.{rules, arith}
+use Rattle.std.proofs.Common.{rules}
 use Rattle.text.specs.Reading.{lines_left}
 use Rattle.text.proofs.IterLaws.{makes-progress}
 use Rattle.text.proofs.LineLaws.{lines_cut}

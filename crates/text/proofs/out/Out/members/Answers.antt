@@ -23,7 +23,7 @@ loop-k-init c =
     let e : members c.args.set ≡ c.in-Some.first ∷ members c.next.new.self.rest = ap members (sym c.members-others.ensures) ∙ c.in-Some.ensures.steps in
     let start = storing_start c.args.self.now (print_members c.args.set) _ c.requires refl in
     rw c.into_iter-k-iterator.ensures.into_iter_gives
-        (storing_more _ _ _ _ start (print_number c.in-Some.first) _ c.number.new.self (print_first c.args.set _ _ e) (rw c.from.ensures at c.number.ensures))
+    (storing_more _ _ _ _ start (print_number c.in-Some.first) _ c.number.new.self (print_first c.args.set _ _ e) (rw c.from.ensures at c.number.ensures))
 
 pub loop-k-preserved : goal.loop-k-preserved
 loop-k-preserved c =

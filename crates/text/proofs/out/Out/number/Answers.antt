@@ -1,5 +1,5 @@
 -- `number` meets its contract: a printed number is its last digits, as many as it has. Assumes nothing.
-use Rattle.std.proofs.Common.{◌+◌, ◌-◌, ◌≡◌, ◌∙◌, ap, sym, length, take, drop, arith, length-drop}
+use Rattle.std.proofs.Common.{◌+◌, ◌-◌, ◌≡◌, ◌∙◌, ap, refl, sym, length, take, drop, arith, length-drop}
 use Rattle.std.proofs.lemmas.List.{length-take-le}
 use Rattle.text.specs.Decimal.{last_digits, print_number}
 use Rattle.text.proofs.DigitLaws.{number_last}
@@ -15,4 +15,4 @@ returns c =
     length-take-le (out.len + w - out.len) (drop out.len out.buf.now) (omega (arith, c.number_width.ensures, length-drop out.len out.buf.now)) ∙ omega (arith, c.number_width.ensures) in
     let printed : c.fill_digits.new.digits ≡ print_number n =
     c.fill_digits.ensures ∙ ap (λ k. last_digits k n) part ∙ sym (number_last n) in
-    appends_part out (print_number n) c.fill_digits.new.digits (out.len + w - out.len) (out.len + w) c.requires printed (omega (arith, c.number_width.ensures)) (omega (arith, c.number_width.ensures))
+    appends_part out _ (print_number n) c.fill_digits.new.digits (out.len + w - out.len) c.requires printed (omega (arith, c.number_width.ensures)) refl refl (omega (arith, c.number_width.ensures))
