@@ -1,5 +1,5 @@
--- Laws of byte strings: `drop-step` is the bridge between an index and a list, the words of the specs are those of std's
--- chains, and `==` passes exactly on equal strings. Assumes nothing.
+-- Laws of byte strings: `drop-step` is the bridge between an index and a list, a byte is found where `position` finds it, and
+-- `==` passes exactly on equal strings. Assumes nothing.
 use Prim.Native.Nat.{ℕ, zero, suc, ◌+◌, ◌≤◌, ◌<◌}
 use mathlib.Core.Path.{◌≡◌, refl, sym, ap, ap₂, ◌∙◌}
 use mathlib.Core.Logic.{◌↔◌}
@@ -13,8 +13,7 @@ use lib.Dec.{eqb, ltb}
 use lib.ListN.{length, get_or, take, drop}
 use lib.Seq.{slice, slice-cons, drop-cons, take-nil}
 use Rattle.std.specs.Prelude.{Some, None}
-use Rattle.std.specs.List.{position_or_len, position, count_by}
-use Rattle.std.proofs.lemmas.List.Recursion.{is_count_by}
+use Rattle.std.specs.List.{position_or_len, position}
 use Rattle.obligations.specs.Tests.{indicator}
 use Rattle.obligations.proofs.BoolLaws.{and_left, and_right}
 use Rattle.text.specs.Bytes.{bytes_before, occurrences, same_bytes}
@@ -70,14 +69,6 @@ cut_none c s = rw (← before-position c s) (go (ltb (bytes_before c s) (length 
     go false p q = omega (arith, ltb-false (bytes_before c s) (length s) p, before_le c s)
 
 -- ---- counting a byte
-
--- it is what `filter` and `count` count
-pub occurrences-count : (c : ℕ) (s : List ℕ) → occurrences c s ≡ count_by (λ b. eqb b c) s
-occurrences-count c = is_count_by (occurrences c) (λ b. eqb b c) refl (λ b s. one (eqb b c) (occurrences c s))
-  where
-    one : (t : Bool) (n : ℕ) → indicator t + n ≡ cond t (1 + n) n
-    one true n = refl
-    one false n = omega arith
 
 pub occurrences-append : (c : ℕ) (s t : List ℕ) → occurrences c (s ++ t) ≡ occurrences c s + occurrences c t
 occurrences-append c [] t = sym (zero-add (occurrences c t))

@@ -6,7 +6,7 @@ ghost use Rattle.text.specs.Inner.{line_length};
 ghost use Rattle.text.specs.Lines.{lines};
 ghost use Rattle.text.specs.Reading.{lines_left};
 
-// The first line of s, and what is behind its CR LF.
+// The first line of s, and what is behind its CR LF. By index, since s is cut there.
 pub fn split_line(s: &[u8]) -> (&[u8], &[u8])
     ensures line { result.0.now ≡ take (line_length s.now) s.now }
     ensures rest { result.1.now ≡ drop (line_length s.now + 2) s.now }

@@ -67,7 +67,7 @@ impl<'a> Out<'a> {
     }
 }
 
-// Fills a buffer with the last digits of n.
+// Fills a buffer with the last digits of n. By index: of what is written through `iter_mut().rev()` a proof learns nothing.
 fn fill_digits(digits: &mut [u8], n: u64)
     ensures { digits.new ≡ last_digits (length digits.old) n }
 {
