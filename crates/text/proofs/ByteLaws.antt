@@ -1,18 +1,8 @@
 -- Laws of byte strings: `drop-step` is the bridge between an index and a list, a byte is found where `position` finds it, and
 -- `==` passes exactly on equal strings. Assumes nothing.
-use Prim.Native.Nat.{ℕ, zero, suc, ◌+◌, ◌≤◌, ◌<◌}
-use mathlib.Core.Path.{◌≡◌, refl, sym, ap, ap₂, ◌∙◌}
-use mathlib.Core.Logic.{◌↔◌}
-use mathlib.Core.Bool.{Bool, true, false, not, cond, false≢true}
-use mathlib.Core.List.{List, [], ◌∷◌, ◌++◌}
-use native.Mathlib.Nat.{zero-add, suc-add}
-use native.Mathlib.Numerals.{add-one}
-use native.Mathlib.Omega.{arith}
-use borrow.Author.Tests.{eq-eqb, eqb-true, ltb-true, ltb-false}
-use lib.Dec.{eqb, ltb}
-use lib.ListN.{length, get_or, take, drop}
-use lib.Seq.{slice, slice-cons, drop-cons, take-nil}
-use Rattle.std.specs.Prelude.{Some, None}
+use Rattle.std.proofs.Common.{ℕ, zero, suc, ◌+◌, ◌≤◌, ◌<◌, ◌≡◌, refl, sym, ap, ap₂, ◌∙◌, ◌↔◌, Bool, true, false, not, cond, List, [], ◌∷◌, ◌++◌, zero-add, suc-add, add-one, arith, eq-eqb, eqb-true, ltb-true, ltb-false, eqb, ltb, length, get_or, take, drop, Some, None}
+use mathlib.Core.Bool.{false≢true}
+use Rattle.std.proofs.Math.Seq.{slice, slice-cons, drop-cons, take-nil}
 use Rattle.std.specs.List.{position_or_len, position}
 use Rattle.obligations.specs.Tests.{indicator}
 use Rattle.obligations.proofs.BoolLaws.{and_left, and_right}

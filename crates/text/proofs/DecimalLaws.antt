@@ -1,22 +1,15 @@
 -- Laws of decimal numbers: what a reader's answer says of its field; that what is printed is all digits, well led, and
 -- read as the number that was printed; and that nothing else is read as that number, since digits after a number that
 -- isn't 0 are printed after it. A number of 20 digits or more is printed in 20, and so as no number of fewer. Assumes nothing.
-use Prim.Native.Nat.{ℕ, zero, suc, ◌+◌, ◌*◌, ◌-◌, ◌≤◌, ◌<◌, ◌^◌, ◌%◌, ◌/◌}
-use mathlib.Core.Path.{◌≡◌, refl, sym, ap, ap₂, ◌∙◌}
-use mathlib.Core.Logic.{◌↔◌, ⊎_elim}
-use mathlib.Core.Bool.{Bool, true, false, ◌&&◌, cond, false≢true}
+use Rattle.std.proofs.Common.{ℕ, zero, suc, ◌+◌, ◌*◌, ◌-◌, ◌≤◌, ◌<◌, ◌^◌, ◌%◌, ◌/◌, ◌≡◌, refl, sym, ap, ap₂, ◌∙◌, ◌↔◌, ⊎_elim, Bool, true, false, ◌&&◌, cond, List, [], ◌∷◌, ◌++◌, map, append-nil, append_assoc, pow-suc, zero-add, eq-or-lt_of_le, arith, le-leb, ne_eqb, leb-true, ltb-true, ltb-false, le-ltb, leb, ltb, eqb, length, Some, None}
+use mathlib.Core.Bool.{false≢true}
 use mathlib.Core.List.Memᴰ
-use mathlib.Core.List.{List, [], ◌∷◌, ◌++◌, map, append-nil, append_assoc, Memᴰ}
-use native.Mathlib.Nat.{pow-suc, zero-add, eq-or-lt_of_le}
-use native.Mathlib.Omega.{arith}
-use borrow.Author.Tests.{le-leb, ne_eqb, leb-true, ltb-true, ltb-false, le-ltb, eqb-false, not-true}
-use lib.Dec.{leb, ltb, eqb}
-use lib.ListN.{length}
+use mathlib.Core.List.{Memᴰ}
+use borrow.Author.Tests.{eqb-false, not-true}
 use Rattle.obligations.proofs.BoolLaws.{and_left, and_right}
 use Rattle.obligations.proofs.SetLaws.{lt_or_le}
 use Rattle.text.specs.Bytes.{occurrences}
 use Rattle.text.specs.Decimal.{is_digit, all_digits, value_from, value, well_led, is_number, parse_number, all_numbers, values, digit, decimal, print_number}
-use Rattle.std.specs.Prelude.{Some, None}
 use Rattle.text.proofs.DigitLaws.{value_grows, decimal-low, number_full, number_below}
 
 -- ---- what an answer says of its field

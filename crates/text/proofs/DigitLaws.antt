@@ -1,15 +1,9 @@
 -- Laws of digits, for the loops over them. Reading may stop at the first byte that decides, since a value only grows with
 -- further digits; writing goes from the last digit to the first, as many as there are. Assumes nothing.
-use Prim.Native.Nat.{ℕ, zero, suc, ◌+◌, ◌*◌, ◌-◌, ◌≤◌, ◌<◌, ◌^◌, ◌/◌}
-use mathlib.Core.Path.{◌≡◌, refl, ap, ◌∙◌}
-use mathlib.Core.Bool.{Bool, true, false, ◌&&◌, and-false, cond}
-use mathlib.Core.List.{List, [], ◌∷◌, ◌++◌}
-use native.Mathlib.Nat.{pow-suc, one-le-pow}
-use native.Mathlib.Omega.{arith}
-use borrow.Author.Tests.{le-leb, lt-leb, leb-true, leb-false, lt-ltb, le-ltb}
-use lib.Dec.{leb, ltb}
-use lib.ListN.{length, length-append}
-use Rattle.std.specs.Prelude.{Option, Some, None}
+use Rattle.std.proofs.Common.{ℕ, zero, suc, ◌+◌, ◌*◌, ◌-◌, ◌≤◌, ◌<◌, ◌^◌, ◌/◌, ◌≡◌, refl, ap, ◌∙◌, Bool, true, false, ◌&&◌, cond, List, [], ◌∷◌, ◌++◌, pow-suc, arith, le-leb, leb-true, leb-false, lt-ltb, le-ltb, leb, ltb, length, length-append, Option, Some, None}
+use mathlib.Core.Bool.{and-false}
+use Rattle.std.proofs.Math.Nat.{one-le-pow}
+use borrow.Author.Tests.{lt-leb}
 use Rattle.text.specs.Decimal.{is_digit, all_digits, value_from, well_led, is_number, parse_number, digit, last_digits, decimal, print_number}
 
 -- ---- reading digit by digit

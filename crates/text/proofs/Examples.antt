@@ -1,12 +1,9 @@
 -- The definitions computed on short texts. Assumes nothing.
-use mathlib.Core.Path.{◌≡◌, refl}
-use mathlib.Core.List.{[], ◌∷◌}
-use lib.ListN.{length, replicate}
+use Rattle.std.proofs.Common.{◌≡◌, refl, [], ◌∷◌, length, replicate, Some, None}
 use Rattle.obligations.specs.Sets.{single, union, members}
 use Rattle.text.specs.Lines.{lines}
 use Rattle.text.specs.Decimal.{is_number, parse_number, print_number}
 use Rattle.text.specs.Members.{are_members, parse_members, print_members}
-use Rattle.std.specs.Prelude.{Some, None}
 
 -- 4294967296 is refused and not cut to 0, as is a number of 400 digits; 0 and the limit are read
 large : (parse_number 31 (52 ∷ 50 ∷ 57 ∷ 52 ∷ 57 ∷ 54 ∷ 55 ∷ 50 ∷ 57 ∷ 54 ∷ []) ≡ None) × (parse_number 1000000 (replicate 400 49) ≡ None)

@@ -1,16 +1,9 @@
 -- Laws of fields: the first part ends at the first separator and the others follow it, there is one part more than
 -- separators, the parts joined again are the text, and what was joined is split again. By induction on the text. Assumes
 -- nothing.
-use Prim.Native.Nat.{ℕ, suc, ◌+◌, ◌<◌}
-use mathlib.Core.Path.{◌≡◌, refl, sym, ap, ◌∙◌}
-use mathlib.Core.Logic.{◌↔◌}
-use mathlib.Core.Bool.{Bool, true, false, cond}
-use mathlib.Core.List.{List, [], ◌∷◌, ◌++◌, append-nil, Memᴰ}
-use native.Mathlib.Omega.{arith}
-use borrow.Author.Tests.{eq-eqb, ne_eqb, eqb-true}
-use lib.Dec.{eqb}
-use lib.ListN.{length, take, drop}
-use lib.Seq.{take-length}
+use Rattle.std.proofs.Common.{ℕ, suc, ◌+◌, ◌<◌, ◌≡◌, refl, sym, ap, ◌∙◌, ◌↔◌, Bool, true, false, cond, List, [], ◌∷◌, ◌++◌, append-nil, arith, eq-eqb, ne_eqb, eqb-true, eqb, length, take, drop}
+use mathlib.Core.List.{Memᴰ}
+use Rattle.std.proofs.Math.Seq.{take-length}
 use Rattle.text.specs.Inner.{CutAt}
 use Rattle.obligations.specs.Tests.{indicator}
 use Rattle.text.specs.Bytes.{bytes_before, occurrences}

@@ -1,18 +1,12 @@
 -- Laws of lines: the first line of a rest ends at its first CR LF and the others follow it, and lines that were written
 -- are read again, by induction on the text; and a line's number is one more than the lines before it. Assumes nothing.
-use Prim.Native.Nat.{ℕ, suc, ◌+◌, ◌-◌, ◌≤◌, ◌<◌}
-use mathlib.Core.Path.{◌≡◌, refl, sym, ap, ◌∙◌}
-use mathlib.Core.Bool.{Bool, true, false, and-false, and-true}
-use mathlib.Core.List.{List, [], ◌∷◌, ◌++◌, append_assoc, Memᴰ}
-use native.Mathlib.Nat.{suc-add}
-use native.Mathlib.Omega.{arith}
-use borrow.Author.Tests.{ne_eqb, leb-true, leb-false}
+use Rattle.std.proofs.Common.{ℕ, suc, ◌+◌, ◌-◌, ◌≤◌, ◌<◌, ◌≡◌, refl, sym, ap, ◌∙◌, Bool, true, false, List, [], ◌∷◌, ◌++◌, append_assoc, suc-add, arith, ne_eqb, leb-true, leb-false, eqb, leb, length, get_or, take, drop, length-drop, drop_of_length-le}
+use mathlib.Core.Bool.{and-false, and-true}
+use mathlib.Core.List.{Memᴰ}
 use native.Mathlib.Decide.{ℕ_discrete as dec_eq}
 use Rattle.std.specs.List.{starts_with}
 use Rattle.std.proofs.lemmas.List.{take_rest}
-use lib.Dec.{eqb, leb}
-use lib.ListN.{length, get_or, take, drop, length-drop, drop_of_length-le}
-use lib.Seq.{slice, drop-drop, drop-cons}
+use Rattle.std.proofs.Math.Seq.{slice, drop-drop, drop-cons}
 use Rattle.text.specs.Bytes.{occurrences}
 use Rattle.text.specs.Lines.{cr, lf, starts_cr_lf, lines, unlines, HasLine, line_at}
 use Rattle.text.specs.Inner.{line_length, line_end, next_line}

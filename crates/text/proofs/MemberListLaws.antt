@@ -1,18 +1,13 @@
 -- Laws of member lists. Reading goes field by field with the lowest member still allowed and the set so far; a set's
 -- members ascend and are activities, so that its printed list is read as the set. No other text is: its numbers are
 -- printed numbers, and numbers that ascend are listed in one way. Assumes nothing.
-use Prim.Native.Nat.{ℕ, zero, suc, ◌+◌, ◌-◌, ◌*◌, ◌≤◌, ◌<◌, ◌^◌}
-use mathlib.Core.Path.{◌≡◌, refl, sym, ap, ap₂, ◌∙◌}
-use mathlib.Core.Logic.{◌↔◌, ◌⊎◌, inl, inr, ⊎_elim}
-use mathlib.Core.Bool.{Bool, true, false, ◌&&◌, or-true, and-false, cond}
+use Rattle.std.proofs.Common.{ℕ, zero, suc, ◌+◌, ◌-◌, ◌*◌, ◌≤◌, ◌<◌, ◌^◌, ◌≡◌, refl, sym, ap, ap₂, ◌∙◌, ◌↔◌, ◌⊎◌, inl, inr, ⊎_elim, Bool, true, false, ◌&&◌, cond, List, [], ◌∷◌, map, arith, le-leb, eq-eqb, eqb-true, leb-true, leb, eqb, length, length-append, Option, Some, None}
+use mathlib.Core.Bool.{or-true, and-false}
 use mathlib.Core.List.Memᴰ
-use mathlib.Core.List.{List, [], ◌∷◌, map, Memᴰ}
-use native.Mathlib.Omega.{arith}
-use borrow.Author.Tests.{le-leb, lt-leb, eq-eqb, eqb-true, leb-true}
+use mathlib.Core.List.{Memᴰ}
+use borrow.Author.Tests.{lt-leb}
 use lib.Bits.{bit_and}
-use lib.Count.{count_trailing_zeros}
-use lib.Dec.{leb, eqb}
-use lib.ListN.{length, length-append}
+use Rattle.std.specs.Int.Count.{count_trailing_zeros}
 use Rattle.obligations.specs.Sets.{member, single, union, members}
 use Rattle.obligations.proofs.BoolLaws.{false-not-true, and_left, and_right, same_test}
 use Rattle.obligations.proofs.SetLaws.{single_lt, union_lt, member_none, member-with, set_ext}
@@ -21,7 +16,6 @@ use Rattle.text.specs.Bytes.{occurrences}
 use Rattle.text.specs.Fields.{space, split, led, join}
 use Rattle.text.specs.Decimal.{is_empty, value, is_number, parse_number, all_numbers, values, print_number}
 use Rattle.text.specs.Members.{highest, ascends_from, with_all, are_members, parse_members, print_members}
-use Rattle.std.specs.Prelude.{Option, Some, None}
 use Rattle.text.proofs.FieldLaws.{split-join, join-split, length-split, join_free}
 use Rattle.text.proofs.DigitLaws.{number_below_100}
 use Rattle.text.proofs.DecimalLaws.{number-value, number-refused, values_most, fields_printed, printed_fields, numbers_free}

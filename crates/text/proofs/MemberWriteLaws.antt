@@ -1,7 +1,6 @@
 -- Laws for writing a member list: the lowest member first, then each of the others after a space, until none is left.
 -- Assumes nothing.
-use Rattle.std.proofs.Common.{ℕ, ◌+◌, ◌≡◌, ap, ◌∙◌, List, [], ◌∷◌, ◌++◌, length, length-append}
-use mathlib.Core.List.{map}
+use Rattle.std.proofs.Common.{ℕ, ◌+◌, ◌≡◌, ap, ◌∙◌, List, [], ◌∷◌, ◌++◌, length, length-append, map}
 use Rattle.obligations.specs.Sets.{members}
 use Rattle.text.specs.Fields.{space, led}
 use Rattle.text.specs.Decimal.{print_number}

@@ -1,7 +1,7 @@
 -- Laws of storing a text piece by piece: what is still to be stored, once stored, gives the buffer with the whole text.
 -- Assumes nothing.
 use Rattle.std.proofs.Common.{ℕ, ◌+◌, ◌≡◌, refl, sym, ap, ◌∙◌, List, [], ◌++◌, length, arith, length-append}
-use lib.Seq.{sets}
+use Rattle.std.proofs.Math.Seq.{sets}
 use Rattle.text.specs.Writing.{Room, Appends}
 use Rattle.text.specs.declared.out.Out.{Out}
 use Rattle.text.proofs.WriteLaws.{sets-append, appends_length}

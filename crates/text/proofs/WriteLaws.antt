@@ -1,10 +1,7 @@
 -- Laws of writing: runs of stores are cut where the text is, a copied part is a run of stores, and texts that are appended one
 -- after the other are appended as one. Assumes nothing.
-use Rattle.std.proofs.Common.{ℕ, zero, suc, ◌+◌, ◌-◌, ◌≤◌, ◌<◌, ◌/◌, ◌≡◌, refl, sym, ap, ◌∙◌, List, [], ◌∷◌, ◌++◌, length, set, take, drop, arith, add-zero, zero-add, append_assoc, length-append}
-use native.Mathlib.Nat.{suc-add, add-suc}
-use mathlib.Core.List.{append-nil}
-use lib.ListN.{drop_of_length-le}
-use lib.Seq.{sets, set_comm, length-sets, drop-drop}
+use Rattle.std.proofs.Common.{ℕ, zero, suc, ◌+◌, ◌-◌, ◌≤◌, ◌<◌, ◌/◌, ◌≡◌, refl, sym, ap, ◌∙◌, List, [], ◌∷◌, ◌++◌, length, set, take, drop, arith, add-zero, zero-add, append_assoc, length-append, suc-add, add-suc, append-nil, drop_of_length-le}
+use Rattle.std.proofs.Math.Seq.{sets, set_comm, length-sets, drop-drop}
 use borrow.Rule.Slice.PartMut.{put_mid}
 use Rattle.std.proofs.lemmas.List.Edits.{sets-eq}
 use Rattle.text.specs.Inner.{Wrote}

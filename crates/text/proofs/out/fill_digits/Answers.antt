@@ -1,7 +1,7 @@
 -- `fill_digits` meets its contract. The loop's invariant: the digits below i, stored, give the digits that are wanted; they are
 -- stored from the last to the first. Assumes nothing.
 use Rattle.std.proofs.Common.{◌∙◌, length, ◌-◌, ap, sym}
-use lib.ListN.{length-set}
+use Rattle.std.proofs.Math.ListN.{length-set}
 use Rattle.text.specs.Decimal.{digit, last_digits}
 use Rattle.text.proofs.DigitLaws.{length_last}
 use Rattle.text.proofs.WriteLaws.{digit-step, sets_whole}

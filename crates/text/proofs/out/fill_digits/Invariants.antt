@@ -1,5 +1,5 @@
 use Rattle.std.proofs.Common.{◌≡◌, length}
-use lib.Seq.{sets}
+use Rattle.std.proofs.Math.Seq.{sets}
 use Rattle.text.specs.Decimal.{last_digits}
 use Rattle.text.proofs.out.fill_digits.Given as goal
 
