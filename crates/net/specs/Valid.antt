@@ -1,6 +1,7 @@
 -- Valid in a net (01, "Obligations and the step"; 000, Definition 3): well-formed, and each set on its side.
 use Rattle.std.specs.Prelude.{ℕ, ◌<◌, List, length}
-use Rattle.obligations.specs.Sequence.{Binding, at, WellFormed}
+use Rattle.obligations.specs.declared.sequence.Binding.{Binding}
+use Rattle.obligations.specs.Sequence.{at, WellFormed}
 use Rattle.net.specs.Sides.{OnSide}
 use Rattle.net.specs.declared.Net.{Net}
 use Rattle.net.specs.declared.sides.Side.TheVariants.{Input, Output}
