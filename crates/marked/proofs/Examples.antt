@@ -26,7 +26,7 @@ use Rattle.net.specs.Contained.{sides_within, contained, contained_means, contai
 use Rattle.net.specs.declared.sides.Side.TheVariants.{Input, Output}
 use Rattle.walks.specs.Below.{any_below, sum_below, with_if, those_below, those}
 use Rattle.walks.specs.Arcs.{named, names, arc, arcs}
-use Rattle.walks.specs.Rows.{rows_from, rows, union_from, one_round, rounds, reach}
+use Rattle.walks.specs.Rows.{rows_from, rows, one_round, rounds, reach}
 use Rattle.walks.specs.Check.{on_sides, in_net, successors, predecessors, outside, lost, unanswered_on, unanswered, lowest_member, check_means, check_says}
 use Rattle.sequences.specs.Limits.{words_within, within_limits, trace_within_limits}
 use Rattle.sequences.specs.Run.{largest_total, output_sizes}
@@ -43,18 +43,18 @@ use Rattle.marked.specs.Marked.{Marked, MarkedPeak, session, detour, MarkedLonge
 
 -- the marked examples
 pub marked : Marked
-unfolding fresh_gives judge_says judge_positions run_says first_missing on_side_at learn_says learn_gives within_limits words_within bindings first_no_activity first_failing first_from learn_positions shaped ends_agree first_wrongly_empty empty_agree first_impossible possible_at possible run after taken added inputs outputs places_of members members_from keep all_due lowered raised all_zero fits takes_binding takes_put with_binding with_use gained topped topped_binding topped_use topped_at raised_at side_says misplaced listed insert insert_at place_in grows put_masks put_lengths put_counts total fresh_net orderly sized ends_ok sides_ok block_ok counts_ok kind_ok all_below ascends_above zeros trials_of later or_else behind trial_if trial try_outputs try_inputs at_end search_from search_of end_says replayed within_budget checked_says has_room replay_tests replay_says check_says lowest_member lost unanswered unanswered_on outside successors predecessors in_net on_sides reach rounds one_round union_from rows rows_from arcs arc names named those those_below with_if sum_below number any_below union single member bit F fig4 answers
+unfolding fresh_gives judge_says judge_positions run_says first_missing on_side_at learn_says learn_gives within_limits words_within bindings first_no_activity first_failing first_from learn_positions shaped ends_agree first_wrongly_empty empty_agree first_impossible possible_at possible run after taken added inputs outputs places_of members members_from keep all_due lowered raised all_zero fits takes_binding takes_put with_binding with_use gained topped topped_binding topped_use topped_at raised_at side_says misplaced listed insert insert_at place_in grows put_masks put_lengths put_counts total fresh_net orderly sized ends_ok sides_ok block_ok counts_ok kind_ok all_below ascends_above zeros trials_of later or_else behind trial_if trial try_outputs try_inputs at_end search_from search_of end_says replayed within_budget checked_says has_room replay_tests replay_says check_says lowest_member lost unanswered unanswered_on outside successors predecessors in_net on_sides reach rounds one_round rows rows_from arcs arc names named those those_below with_if sum_below number any_below union single member bit F fig4 answers
 marked = (refl, refl, refl, refl, refl, refl, refl, refl, refl, refl, refl, refl, refl)
 
 -- the peak is 4, and as the judge says it too
 pub marked_peak : MarkedPeak
-unfolding judge_says judge_positions run_says first_missing on_side_at within_limits words_within bindings first_no_activity first_failing first_from shaped ends_agree first_impossible possible_at possible run after taken added inputs outputs places_of members members_from keep all_due lowered raised all_zero total largest_total output_sizes size listed orderly sized ends_ok sides_ok block_ok counts_ok kind_ok all_below ascends_above zeros lowest_member lost unanswered unanswered_on outside successors predecessors in_net on_sides reach rounds one_round union_from rows rows_from arc names named those those_below with_if number any_below union single member bit travel trip
+unfolding judge_says judge_positions run_says first_missing on_side_at within_limits words_within bindings first_no_activity first_failing first_from shaped ends_agree first_impossible possible_at possible run after taken added inputs outputs places_of members members_from keep all_due lowered raised all_zero total largest_total output_sizes size listed orderly sized ends_ok sides_ok block_ok counts_ok kind_ok all_below ascends_above zeros lowest_member lost unanswered unanswered_on outside successors predecessors in_net on_sides reach rounds one_round rows rows_from arc names named those those_below with_if number any_below union single member bit travel trip
 marked_peak = ((largest_is-peak (bindings trip) 4 (lit< tt)).0 refl, refl, refl)
 
 -- the longest session is followed and replayed, one that is longer is refused by 3, and sets of the last three positions decide
 -- a comparison
 pub marked_longest : MarkedLongest
-unfolding fresh_gives judge_says learn_says learn_gives within_limits words_within bindings words first_no_activity first_failing first_from shaped ends_agree possible after taken added inputs outputs places_of members members_from keep all_due lowered raised all_zero fits takes_binding takes_put with_binding with_use gained topped topped_binding topped_use topped_at raised_at side_says misplaced listed insert insert_at place_in grows put_masks put_lengths put_counts total fresh_net orderly sized ends_ok sides_ok block_ok counts_ok kind_ok all_below ascends_above zeros follow_says follow_gives trace_within_limits follow_positions followed_from trials_of later or_else behind trial_if trial try_outputs try_inputs at_end search_from search_of end_says replayed within_budget checked_says has_room replay_tests replay_says lowest_member lost unanswered unanswered_on outside successors predecessors in_net on_sides reach rounds one_round union_from rows rows_from arc names named those those_below with_if number any_below union single member bit contained_says contained sides_within all_listed session detour grown answers
+unfolding fresh_gives judge_says learn_says learn_gives within_limits words_within bindings words first_no_activity first_failing first_from shaped ends_agree possible after taken added inputs outputs places_of members members_from keep all_due lowered raised all_zero fits takes_binding takes_put with_binding with_use gained topped topped_binding topped_use topped_at raised_at side_says misplaced listed insert insert_at place_in grows put_masks put_lengths put_counts total fresh_net orderly sized ends_ok sides_ok block_ok counts_ok kind_ok all_below ascends_above zeros follow_says follow_gives trace_within_limits follow_positions followed_from trials_of later or_else behind trial_if trial try_outputs try_inputs at_end search_from search_of end_says replayed within_budget checked_says has_room replay_tests replay_says lowest_member lost unanswered unanswered_on outside successors predecessors in_net on_sides reach rounds one_round rows rows_from arc names named those those_below with_if number any_below union single member bit contained_says contained sides_within all_listed session detour grown answers
 marked_longest = (refl, refl, refl, refl, refl, refl, refl)
 
 -- F is what three sequences give, but for the counts
@@ -107,7 +107,7 @@ nets :
     × (map check_says (net ∷ larger ∷ other ∷ []) ≡ map check_means (Ok 7 ∷ Ok 8 ∷ Ok 1 ∷ []))
     × (contained_says net larger ≡ contained_means (Ok true))
     × (contained_says net other ≡ contained_means (Ok false))
-unfolding learn_says learn_gives within_limits words_within bindings first_no_activity first_failing first_from learn_positions shaped ends_agree first_wrongly_empty empty_agree first_impossible possible_at possible run after taken added inputs outputs places_of members members_from keep all_due lowered raised all_zero fits takes_binding takes_put with_binding with_use gained topped topped_binding topped_use topped_at raised_at side_says misplaced listed insert insert_at place_in grows put_masks put_lengths put_counts total fresh_net orderly sized ends_ok sides_ok block_ok counts_ok kind_ok all_below ascends_above zeros follow_says follow_gives trace_within_limits follow_positions followed_from single check_says lowest_member lost unanswered unanswered_on outside successors predecessors in_net on_sides reach rounds one_round union_from rows rows_from arcs arc names named those those_below with_if sum_below number any_below union member bit contained_says contained sides_within all_listed calls more others fig4 grown answers
+unfolding learn_says learn_gives within_limits words_within bindings first_no_activity first_failing first_from learn_positions shaped ends_agree first_wrongly_empty empty_agree first_impossible possible_at possible run after taken added inputs outputs places_of members members_from keep all_due lowered raised all_zero fits takes_binding takes_put with_binding with_use gained topped topped_binding topped_use topped_at raised_at side_says misplaced listed insert insert_at place_in grows put_masks put_lengths put_counts total fresh_net orderly sized ends_ok sides_ok block_ok counts_ok kind_ok all_below ascends_above zeros follow_says follow_gives trace_within_limits follow_positions followed_from single check_says lowest_member lost unanswered unanswered_on outside successors predecessors in_net on_sides reach rounds one_round rows rows_from arcs arc names named those those_below with_if sum_below number any_below union member bit contained_says contained sides_within all_listed calls more others fig4 grown answers
 nets = (refl, refl, refl, refl)
 
 -- ---- a list in which a side is full

@@ -9,8 +9,8 @@ use Rattle.obligations.proofs.BoolLaws.{false-not-true, and_left, and_right, and
 use Rattle.net.specs.Lists.{listed}
 use Rattle.net.specs.Sides.{sets_on}
 use Rattle.net.specs.declared.Net.{Net}
-use Rattle.net.specs.declared.Side.{Side}
-use Rattle.net.specs.declared.Side.TheVariants.{Input, Output}
+use Rattle.net.specs.declared.sides.Side.{Side}
+use Rattle.net.specs.declared.sides.Side.TheVariants.{Input, Output}
 use Rattle.net.proofs.ListLaws.{none_listed, listed-first, listed-later, head_or_later}
 use Rattle.walks.specs.Arcs.{Names, Arc, named, names, arc}
 

@@ -5,6 +5,7 @@ use mathlib.Core.Path.{◌≡◌, refl, sym, ap, ap₂, ◌∙◌}
 use mathlib.Core.Logic.{⊎_elim}
 use mathlib.Core.Bool.{Bool, true, false, not, ◌&&◌, ◌||◌, and-true, and-false, or-false}
 use native.Mathlib.Nat.{le_refl, eq-or-lt_of_le}
+use native.Mathlib.Decide.{ℕ_discrete as dec_eq}
 use native.Mathlib.Omega.{arith}
 use borrow.Author.Tests.{eq-eqb, ne_eqb, lt-ltb, le-ltb}
 use lib.Dec.{eqb, ltb}
@@ -40,19 +41,26 @@ any_ext (suc n) f g e = ap₂ (λ (s t : Bool). s || t) (any_ext n f g (λ k l. 
 -- ---- whether a set has a member that another lacks
 
 module _ (m n : ℕ) (hm : m < 2 ^ 32) (hn : n < 2 ^ 32) where
-  pub some_lacked : (minus m n ≡ 0 → ⊥) → any_below 32 (λ k. member m k && not (member n k)) ≡ true
+  some_lacked : (minus m n ≡ 0 → ⊥) → any_below 32 (λ k. member m k && not (member n k)) ≡ true
   some_lacked d =
       let w = some_member (minus m n) (omega arith) (minus_lt m n hm) in
       let e = minus-member m n w.0 hm hn w.1 in
       true_any (λ k. member m k && not (member n k)) 32 w.0 (member-activity m w.0 hm e.0) (and_both e.0 (rw e.1))
 
-  pub none_lacked : minus m n ≡ 0 → any_below 32 (λ k. member m k && not (member n k)) ≡ false
+  none_lacked : minus m n ≡ 0 → any_below 32 (λ k. member m k && not (member n k)) ≡ false
   none_lacked z =
       ⊎_elim
       (λ e.
       let w = any_true (λ k. member m k && not (member n k)) 32 e in
       absurd (false-not-true (ap (λ (s : ℕ). member s w.0) z ∙ member_none w.0) (member-minus m n w.0 hm hn ∙ w.2)))
       (λ e. e) (true_or_false (any_below 32 (λ k. member m k && not (member n k))))
+
+  -- the test of an empty difference says whether
+  pub lacked : not (eqb (minus m n) 0) ≡ any_below 32 (λ k. member m k && not (member n k))
+  lacked = elim (dec_eq (minus m n) 0) [
+    | yes z ↦ rw (eq-eqb (minus m n) 0 z, none_lacked z)
+    | no d ↦ rw (ne_eqb (minus m n) 0 d, some_lacked d)
+  ]
 
 -- ---- which pass
 
@@ -65,6 +73,17 @@ pub with_if_lt : (t : Bool) (k m : ℕ) → m < 2 ^ 32 → with_if t k m < 2 ^ 3
 unfolding with_if
 with_if_lt true k m h = union_lt m (single k) h (single_lt k)
 with_if_lt false k m h = h
+
+-- of the activities passed those that pass a test are members, and one activity more is tested
+module _ (t : Bool) (a m : ℕ) (h : a < 32) where
+  pub member_passed : (k : ℕ) → k < a → member (with_if t a m) k ≡ member m k
+  member_passed k l = rw (member-with_if t a m k h, ne_eqb a k (omega arith), and-false t) (or-false (member m k))
+
+  pub member_tested : member m a ≡ false → member (with_if t a m) a ≡ t
+  member_tested e = rw (member-with_if t a m a h, e, eq-eqb a a refl) (and-true t)
+
+  pub member_to_come : (k : ℕ) → a < k → member m k ≡ false → member (with_if t a m) k ≡ false
+  member_to_come k l e = rw (member-with_if t a m k h, e, ne_eqb a k (omega arith)) (and-false t)
 
 member_below : (test : ℕ → Bool) (n j : ℕ) → n ≤ 32 → member (those_below n test) j ≡ ltb j n && test j
 unfolding those_below

@@ -11,14 +11,16 @@ use lib.Dec.{eqb}
 use Rattle.obligations.specs.Sets.{member}
 use Rattle.obligations.proofs.BoolLaws.{true_or_false, false-not-true, and_left, and_right, and_both, or_left, or_right, or_cases}
 use Rattle.obligations.proofs.SetLaws.{member_none, member-activity}
-use Rattle.net.specs.Refusals.{accepted, refused, on_no_walk, name_unanswered, Says, disorderly}
+use Rattle.net.specs.Refusals.{accepted, refused, refusal_number, on_no_walk, name_unanswered, Says, disorderly}
 use Rattle.net.specs.Sentences.{Sentence, NoneHolds, AsListed}
 use Rattle.net.specs.Sides.{opposite}
 use Rattle.net.specs.Orderly.{orderly, Orderly}
 use Rattle.net.specs.Common.{not_orderly}
 use Rattle.net.specs.declared.Net.{Net}
-use Rattle.net.specs.declared.Side.{Side}
-use Rattle.net.specs.declared.Side.TheVariants.{Input, Output}
+use Rattle.net.specs.declared.refusal.Refused.{Refused}
+use Rattle.std.proofs.Common.{Result, Ok, Err}
+use Rattle.net.specs.declared.sides.Side.{Side}
+use Rattle.net.specs.declared.sides.Side.TheVariants.{Input, Output}
 use Rattle.net.proofs.OrderlyLaws.{orderly_facts, on_side_activity}
 use Rattle.net.proofs.SentenceLaws.{holds-whole, Told, told_end, chain_listed}
 use Rattle.net.proofs.CommonLaws.{orderly_some, orderly_link}
@@ -27,8 +29,6 @@ use Rattle.walks.specs.Arcs.{Names, names, arcs}
 use Rattle.walks.specs.Walk.{InNet, the_start, the_end, with_a_set, in_a_set, OnWalk, Passes}
 use Rattle.walks.specs.Rows.{reach}
 use Rattle.walks.specs.Check.{in_net, successors, predecessors, outside, Lost, activity_on_no_walk, Unanswered, unanswered_name, check_refusals, lost, unanswered_on, unanswered, lowest_member, check_means, passing, pass_says, check_says}
-use Rattle.walks.specs.declared.CheckAnswer.{CheckAnswer}
-use Rattle.walks.specs.declared.CheckAnswer.TheVariants.{Passed, Refused}
 use Rattle.walks.proofs.BelowLaws.{any_true, true_any, member_those_at}
 use Rattle.walks.proofs.ArcLaws.{names_facts}
 use Rattle.walks.proofs.LinkLaws.{lost_lt, unanswered_lt}
@@ -186,12 +186,12 @@ module _ (net : Net) (rest : Says) where
       go false t q = q
 
 -- what an answer of the check of an orderly net shows of a chain that goes on behind it
-module _ (net : Net) (r : CheckAnswer) (e : check_means r ≡ pass_says net) where
-  pub answer_clear : (n : ℕ) → r ≡ Passed n → Clear net
+module _ (net : Net) (r : Result ℕ Refused) (e : check_means r ≡ pass_says net) where
+  pub answer_clear : (n : ℕ) → r ≡ Ok n → Clear net
   answer_clear n q = ((passing_passes net (accepted (arcs net))).0 (ap (λ (s : Says). s.ok) (sym e ∙ ap check_means q))).0
 
-  pub answer_refused : (rest : Says) (n p : ℕ) → r ≡ Refused n p → passing net rest ≡ refused n p
-  answer_refused rest n p q = passing_refused net rest (arcs net) n p (sym e ∙ ap check_means q)
+  pub answer_refused : (rest : Says) (u : Refused) → r ≡ Err u → passing net rest ≡ refused (refusal_number u.refusal) u.place
+  answer_refused rest u q = passing_refused net rest (arcs net) (refusal_number u.refusal) u.place (sym e ∙ ap check_means q)
 
 -- ---- the call
 

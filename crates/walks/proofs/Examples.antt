@@ -9,14 +9,14 @@ use Rattle.net.specs.Orderly.{ends_ok, block_ok, sides_ok, sized, orderly, count
 use Rattle.net.specs.Fresh.{fresh_net}
 use Rattle.net.specs.Put.{misplaced, side_says, put_says, grows, put_gives}
 use Rattle.net.specs.Examples.{F}
+use Rattle.net.specs.Refusals.{accepted, refused}
 use Rattle.net.specs.declared.Net.{Net}
-use Rattle.net.specs.declared.Side.{Side}
-use Rattle.net.specs.declared.Side.TheVariants.{Input, Output}
+use Rattle.net.specs.declared.sides.Side.{Side}
+use Rattle.net.specs.declared.sides.Side.TheVariants.{Input, Output}
 use Rattle.walks.specs.Below.{any_below, sum_below, with_if, those_below, those}
 use Rattle.walks.specs.Arcs.{named, names, arc, arcs}
-use Rattle.walks.specs.Rows.{rows_from, rows, union_from, one_round, rounds, reach}
-use Rattle.walks.specs.Check.{on_sides, in_net, successors, predecessors, outside, lost, unanswered_on, unanswered, lowest_member, check_says, check_means}
-use Rattle.walks.specs.declared.CheckAnswer.TheVariants.{Passed, Refused}
+use Rattle.walks.specs.Rows.{rows_from, rows, one_round, rounds, reach}
+use Rattle.walks.specs.Check.{on_sides, in_net, successors, predecessors, outside, lost, unanswered_on, unanswered, lowest_member, check_says}
 
 -- a net with sets put on one side
 puts : Net → Side → ℕ → List ℕ → Net
@@ -37,8 +37,8 @@ loop = puts (puts (puts (puts (fresh_net 0 2) Output 0 (2 ∷ [])) Input 1 (1 �
 
 says :
     map check_says (F ∷ named_only ∷ twice ∷ loop ∷ fresh_net 7 3 ∷ fresh_net 3 3 ∷ [])
-    ≡ map check_means (Passed 4 ∷ Refused 6 5 ∷ Passed 4 ∷ Passed 3 ∷ Refused 6 3 ∷ Refused 2 0 ∷ [])
-unfolding F named_only twice loop puts fresh_net put_gives grows put_says side_says misplaced insert insert_at place_in listed check_says lowest_member lost unanswered unanswered_on outside successors predecessors in_net on_sides reach rounds one_round union_from rows rows_from arcs arc names named those those_below with_if sum_below number any_below orderly sized ends_ok sides_ok block_ok counts_ok kind_ok all_below ascends_above zeros members members_from keep union single member bit
+    ≡ accepted 4 ∷ refused 6 5 ∷ accepted 4 ∷ accepted 3 ∷ refused 6 3 ∷ refused 2 0 ∷ []
+unfolding F named_only twice loop puts fresh_net put_gives grows put_says side_says misplaced insert insert_at place_in listed check_says lowest_member lost unanswered unanswered_on outside successors predecessors in_net on_sides reach rounds one_round rows rows_from arcs arc names named those those_below with_if sum_below number any_below orderly sized ends_ok sides_ok block_ok counts_ok kind_ok all_below ascends_above zeros members members_from keep union single member bit
 says = refl
 
 -- F with one more set, or with two: 1 names 2, without its partner and with it; 2 names 1 on its input side, or on its output side;
@@ -53,6 +53,6 @@ partners :
     ∷ put_gives (put_gives F Input 1 2) Output 1 2
     ∷ put_gives (put_gives F Output 2 1) Output 1 1
     ∷ [])
-    ≡ map check_means (Refused 19 1 ∷ Passed 5 ∷ Refused 19 2 ∷ Refused 19 2 ∷ Refused 19 1 ∷ Passed 5 ∷ Refused 19 1 ∷ [])
-unfolding F fresh_net put_gives grows put_says side_says misplaced insert insert_at place_in listed check_says lowest_member lost unanswered unanswered_on outside successors predecessors in_net on_sides reach rounds one_round union_from rows rows_from arcs arc names named those those_below with_if sum_below number any_below orderly sized ends_ok sides_ok block_ok counts_ok kind_ok all_below ascends_above zeros members members_from keep union single member bit
+    ≡ refused 19 1 ∷ accepted 5 ∷ refused 19 2 ∷ refused 19 2 ∷ refused 19 1 ∷ accepted 5 ∷ refused 19 1 ∷ []
+unfolding F fresh_net put_gives grows put_says side_says misplaced insert insert_at place_in listed check_says lowest_member lost unanswered unanswered_on outside successors predecessors in_net on_sides reach rounds one_round rows rows_from arcs arc names named those those_below with_if sum_below number any_below orderly sized ends_ok sides_ok block_ok counts_ok kind_ok all_below ascends_above zeros members members_from keep union single member bit
 partners = refl

@@ -3,8 +3,8 @@ use Prim.Native.Nat.{ℕ}
 use Rattle.net.specs.Orderly.{Orderly}
 use Rattle.net.specs.Contained.{Contained}
 use Rattle.net.specs.declared.Net.{Net}
-use Rattle.net.specs.declared.Side.{Side}
-use Rattle.net.specs.declared.Side.TheVariants.{Input, Output}
+use Rattle.net.specs.declared.sides.Side.{Side}
+use Rattle.net.specs.declared.sides.Side.TheVariants.{Input, Output}
 use Rattle.net.proofs.OrderlyLaws.{facts_orderly}
 use Rattle.walks.specs.Arcs.{Names, Arc}
 use Rattle.walks.specs.Walk.{Walk}

@@ -17,8 +17,8 @@ use Rattle.obligations.proofs.SetLaws.{member-single, member_union, member-minus
 use Rattle.net.specs.Refusals.{accepted}
 use Rattle.net.specs.Sides.{masks_of, lengths_of, opposite, side_in, sets_on}
 use Rattle.net.specs.declared.Net.{Net}
-use Rattle.net.specs.declared.Side.{Side}
-use Rattle.net.specs.declared.Side.TheVariants.{Input, Output}
+use Rattle.net.specs.declared.sides.Side.{Side}
+use Rattle.net.specs.declared.sides.Side.TheVariants.{Input, Output}
 use Rattle.walks.specs.Below.{any_below, those}
 use Rattle.walks.specs.Arcs.{named, names, arc, arcs}
 use Rattle.walks.specs.Rows.{has, rows, reach}
@@ -53,10 +53,6 @@ named_rows_lem f k =
     (λ e. let w = any_true (λ b. member (f b) k) 32 e in at_named (rows f) k w.0 (rw (rows_long f) w.1) (ap (λ (m : ℕ). member m k) (rows_at f w.0 w.1) ∙ w.2))
 
 -- ---- the rows of names
-
-pub named_rows-long : (masks lengths : List ℕ) → length (named_rows masks lengths) ≡ 32
-unfolding named_rows
-named_rows-long masks lengths = rows_long (λ a. union_of (side_in masks lengths a))
 
 -- the rows of those named on a net's sides
 abbrev pub rows_on : Net → Side → List ℕ

@@ -4,21 +4,24 @@
 use Prim.Native.Nat.{ℕ, zero, suc, ◌+◌, ◌^◌, ◌≤◌, ◌<◌}
 use mathlib.Core.Path.{◌≡◌, refl, sym, ap, subst, ◌∙◌}
 use mathlib.Core.Logic.{◌↔◌, ◌⊎◌, inl, inr, ⊎_elim}
-use mathlib.Core.Bool.{true}
+use mathlib.Core.Bool.{true, false}
+use Rattle.std.proofs.Common.{fold}
 use mathlib.Core.List.Memᴰ
 use mathlib.Core.List.{List, [], ◌∷◌, Memᴰ}
 use native.Mathlib.Decide.{ℕ_discrete as dec_eq}
 use native.Mathlib.Omega.{arith}
 use borrow.Author.Tests.{eqb-true}
+use lib.Count.{count_trailing_zeros}
 use lib.Dec.{eqb, lit<}
 use lib.ListN.{get_or}
 use Rattle.obligations.specs.Sets.{member, single, union, minus, members, size}
 use Rattle.obligations.proofs.BoolLaws.{false-not-true, same_test, or_left, or_right, or_cases}
-use Rattle.obligations.proofs.SetLaws.{member_none, member-activity, member_union, member-with, single_lt, union_lt, set_ext, single-has, single_only, minus_some}
+use Rattle.obligations.proofs.SetLaws.{member_none, member-activity, member_union, member-with, single_lt, union_lt, set_ext, single-has, single_only, minus_some, minus_lt, minus-member}
+use Rattle.obligations.proofs.LowestLaws.{lowest_activity, lowest_member_lem}
 use Rattle.obligations.proofs.MemberLaws.{members_are, size_none, size_le}
 use Rattle.walks.specs.Arcs.{named}
 use Rattle.walks.specs.Walk.{Along, here}
-use Rattle.walks.specs.Rows.{has, Has, union_from, rows_at, one_round, rounds, reach}
+use Rattle.walks.specs.Rows.{has, Has, rows_at, one_round, rounds, reach}
 use Rattle.walks.proofs.BelowLaws.{size_lt}
 use Rattle.walks.proofs.AlongLaws.{along_one, along_join, along_kept}
 use Rattle.walks.proofs.RowLaws.{member-union_from}
@@ -60,8 +63,8 @@ module _ (next : List ℕ) where
         (or_cases (member seen k) (named (rows_at next (members seen)) k) (sym (member-union_from seen (rows_at next (members seen)) k) ∙ e))
 
   module _ (small : Small next) where
-    spread_lt : (m : ℕ) (ks : List ℕ) → m < 2 ^ 32 → union_from m (rows_at next ks) < 2 ^ 32
-    unfolding union_from Small
+    spread_lt : (m : ℕ) (ks : List ℕ) → m < 2 ^ 32 → fold union m (rows_at next ks) < 2 ^ 32
+    unfolding Small
     spread_lt m [] h = h
     spread_lt m (k ∷ ks) h = spread_lt (union m (get_or next k 0)) ks (union_lt m (get_or next k 0) h (small k))
 
@@ -172,8 +175,17 @@ module _ (next : List ℕ) (from : ℕ) where
 
   module _ (seen done : ℕ) (s : Search next from seen done) where
     -- something is seen and not done
-    pub search_open : (done ≡ seen → ⊥) → 0 < minus seen done
+    search_open : (done ≡ seen → ⊥) → 0 < minus seen done
     search_open ne = minus_some done seen s.done_small s.seen_small s.done_seen ne
+
+    -- the lowest of those is an activity
+    pub search_lowest : (m : ℕ) → m ≡ minus seen done → (done ≡ seen → ⊥)
+        → (count_trailing_zeros 32 m < 32) × (member seen (count_trailing_zeros 32 m) ≡ true) × (member done (count_trailing_zeros 32 m) ≡ false)
+    search_lowest m e ne =
+        let some = search_open ne in
+        let small = minus_lt seen done s.seen_small in
+        let f = minus-member seen done (count_trailing_zeros 32 (minus seen done)) s.seen_small s.done_small (lowest_member_lem (minus seen done) some small) in
+        rw e (lowest_activity (minus seen done) some small, f.0, f.1)
 
     pub search_next : (a : ℕ) → a < 32 → get_or next a 0 < 2 ^ 32 → member seen a ≡ true → Search next from (union seen (get_or next a 0)) (union done (single a))
     unfolding has

@@ -1,30 +1,26 @@
 -- Laws of rows and of unions of sets: what stands in each row, and who is in a union. Assumes nothing.
-use Prim.Native.Nat.{ℕ, zero, suc, ◌+◌, ◌≤◌, ◌<◌}
+use Prim.Native.Nat.{ℕ, zero, suc, ◌+◌, ◌≤◌, ◌<◌, ◌^◌}
 use mathlib.Core.Path.{◌≡◌, refl, sym, ap, ap₂, ◌∙◌}
 use mathlib.Core.Logic.{◌↔◌, ⊎_elim}
 use mathlib.Core.Bool.{Bool, true, false, ◌&&◌, ◌||◌, or-false, or_assoc}
 use mathlib.Core.List.{List, [], ◌∷◌}
-use native.Mathlib.Numerals.{add-one}
 use native.Mathlib.Omega.{arith}
 use borrow.Author.Count.{below_more}
 use borrow.Author.Tests.{ltb-true}
 use lib.Dec.{ltb}
-use lib.ListN.{length, get_or, drop, set, get_or-eq_default}
-use lib.Seq.{ext_get_or, drop-cons, get_or-set_same, get_or-set_other}
+use Rattle.std.proofs.Common.{fold, sum_by}
+use Rattle.std.proofs.lemmas.List.Sums.{sum_by-cons, sum_by-le}
+use lib.ListN.{length, get_or, set, get_or-eq_default}
+use lib.Seq.{ext_get_or, get_or-set_same, get_or-set_other}
 use Rattle.obligations.specs.Sets.{member, union, size}
 use Rattle.obligations.proofs.BoolLaws.{false-not-true, and_left, and_right}
+use Rattle.obligations.proofs.MemberLaws.{size_le}
 use Rattle.obligations.proofs.SetLaws.{lt_or_le, member_none, member_union}
 use Rattle.walks.specs.Arcs.{named}
 use Rattle.walks.specs.Below.{sum_below, those}
-use Rattle.walks.specs.Rows.{has, Has, rows_from, rows, union_from}
+use Rattle.walks.specs.Rows.{has, Has, rows_from, rows}
 use Rattle.walks.specs.Links.{sizes}
 use Rattle.walks.proofs.BelowLaws.{member-those, member_those_at, sum_ext, sum_first}
-
-drop_past : (i : ℕ) (l : List ℕ) → length l ≤ i → drop i l ≡ []
-drop_past zero [] h = refl
-drop_past (suc i) [] h = refl
-drop_past zero (x ∷ xs) h = absurd (omega arith)
-drop_past (suc i) (x ∷ xs) h = drop_past i xs (omega arith)
 
 -- ---- rows
 
@@ -87,38 +83,26 @@ has-those test a b = ((λ h. ⊎_elim (there h) (λ l. absurd (false-not-true (h
 
 -- ---- unions
 
-pub member-union_from : (m : ℕ) (l : List ℕ) (k : ℕ) → member (union_from m l) k ≡ member m k || named l k
-unfolding union_from named
+pub member-union_from : (m : ℕ) (l : List ℕ) (k : ℕ) → member (fold union m l) k ≡ member m k || named l k
+unfolding named
 member-union_from m [] k = sym (or-false (member m k))
 member-union_from m (x ∷ xs) k = member-union_from (union m x) xs k ∙ ap (λ (t : Bool). t || named xs k) (member_union m x k) ∙ or_assoc (member m k) (member x k) (named xs k)
 
-pub member-union_of : (l : List ℕ) (k : ℕ) → member (union_from 0 l) k ≡ named l k
+pub member-union_of : (l : List ℕ) (k : ℕ) → member (fold union 0 l) k ≡ named l k
 member-union_of l k = member-union_from 0 l k ∙ ap (λ (t : Bool). t || named l k) (member_none k)
-
--- one set more is passed, and none is left
-pub union-next : (m : ℕ) (l : List ℕ) (i : ℕ) → i < length l → union_from m (drop i l) ≡ union_from (union m (get_or l i 0)) (drop (i + 1) l)
-unfolding union_from
-union-next m l i h = rw (add-one i, drop-cons l i 0 h)
-
-pub union-end : (m : ℕ) (l : List ℕ) (i : ℕ) → length l ≤ i → union_from m (drop i l) ≡ m
-unfolding union_from
-union-end m l i h = rw (drop_past i l h)
 
 -- ---- sizes
 
-pub sizes-next : (l : List ℕ) (i : ℕ) → i < length l → sizes (drop i l) ≡ size (get_or l i 0) + sizes (drop (i + 1) l)
-unfolding sizes
-sizes-next l i h = rw (add-one i, drop-cons l i 0 h)
-
-pub sizes-end : (l : List ℕ) (i : ℕ) → length l ≤ i → sizes (drop i l) ≡ 0
-unfolding sizes
-sizes-end l i h = rw (drop_past i l h)
+-- the members of 32 sets can be counted
+pub sizes_fit : (l : List ℕ) → length l ≡ 32 → sum_by size l < 2 ^ 32
+sizes_fit l e = let h = sum_by-le size 32 l (λ k d i. size_le (get_or l k d)) in omega arith
 
 sizes-from : (k n : ℕ) (f : ℕ → ℕ) → sizes (rows_from k n f) ≡ sum_below n (λ i. size (f (k + i)))
-unfolding sizes rows_from sum_below
+unfolding rows_from sum_below
 sizes-from k zero f = refl
 sizes-from k (suc n) f =
-    ap₂ (λ (x y : ℕ). size x + y) (ap f (omega arith)) (sizes-from (suc k) n f ∙ sum_ext n (λ i. size (f (suc k + i))) (λ i. size (f (k + suc i))) (λ i h. ap (λ (j : ℕ). size (f j)) (omega arith)))
+    sum_by-cons size (f k) (rows_from (suc k) n f)
+    ∙ ap₂ (λ (x y : ℕ). size x + y) (ap f (omega arith)) (sizes-from (suc k) n f ∙ sum_ext n (λ i. size (f (suc k + i))) (λ i. size (f (k + suc i))) (λ i h. ap (λ (j : ℕ). size (f j)) (omega arith)))
     ∙ sym (sum_first n (λ i. size (f (k + i))))
 
 pub sizes-rows : (f : ℕ → ℕ) → sizes (rows f) ≡ sum_below 32 (λ a. size (f a))

@@ -14,8 +14,8 @@ use Rattle.obligations.proofs.SetLaws.{lt_or_le}
 use Rattle.net.specs.Sides.{lengths_of, sets_on, OnSide}
 use Rattle.net.specs.Orderly.{orderly}
 use Rattle.net.specs.declared.Net.{Net}
-use Rattle.net.specs.declared.Side.{Side}
-use Rattle.net.specs.declared.Side.TheVariants.{Input, Output}
+use Rattle.net.specs.declared.sides.Side.{Side}
+use Rattle.net.specs.declared.sides.Side.TheVariants.{Input, Output}
 use Rattle.net.proofs.OrderlyLaws.{orderly_facts, on_side_activity, sets_length}
 use Rattle.walks.specs.Below.{any_below}
 use Rattle.walks.specs.Arcs.{Names, Arc, names, arc}

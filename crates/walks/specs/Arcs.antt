@@ -5,8 +5,8 @@ use Rattle.obligations.specs.Tests.{number}
 use Rattle.obligations.specs.Sets.{member}
 use Rattle.net.specs.Sides.{sets_on, OnSide}
 use Rattle.net.specs.declared.Net.{Net}
-use Rattle.net.specs.declared.Side.{Side}
-use Rattle.net.specs.declared.Side.TheVariants.{Input, Output}
+use Rattle.net.specs.declared.sides.Side.{Side}
+use Rattle.net.specs.declared.sides.Side.TheVariants.{Input, Output}
 use Rattle.walks.specs.Below.{sum_below}
 
 -- ---- the facts

@@ -1,27 +1,25 @@
 -- What the net check says (01, "Net check and judge"; 02, (iv); refusals 2, 6 and 19).
-use Rattle.std.specs.Prelude.{ℕ, ◌<◌, Bool, not, ◌&&◌, ◌||◌, List, [], ◌∷◌, eqb, get_or}
+use Rattle.std.specs.Prelude.{ℕ, ◌<◌, Bool, not, ◌&&◌, ◌||◌, List, [], ◌∷◌, eqb, get_or, Result}
 use Rattle.obligations.specs.Limits.{activities}
 use Rattle.obligations.specs.Sets.{member, members}
-use Rattle.net.specs.Refusals.{Says, accepted, refused, disorderly, on_no_walk, name_unanswered}
+use Rattle.net.specs.Refusals.{Says, means, accepted, disorderly, on_no_walk, name_unanswered}
 use Rattle.net.specs.Sentences.{Sentence, lowest}
 use Rattle.net.specs.Chains.{unless, unless_at}
 use Rattle.net.specs.Sides.{lengths_of, opposite}
 use Rattle.net.specs.Orderly.{orderly}
 use Rattle.net.specs.Common.{not_orderly}
 use Rattle.net.specs.declared.Net.{Net}
-use Rattle.net.specs.declared.Side.{Side}
-use Rattle.net.specs.declared.Side.TheVariants.{Input, Output}
+use Rattle.net.specs.declared.refusal.Refused.{Refused}
+use Rattle.net.specs.declared.sides.Side.{Side}
+use Rattle.net.specs.declared.sides.Side.TheVariants.{Input, Output}
 use Rattle.walks.specs.Below.{any_below, those}
 use Rattle.walks.specs.Arcs.{Names, names, arc, arcs}
 use Rattle.walks.specs.Walk.{InNet, OnWalk}
 use Rattle.walks.specs.Rows.{rows, reach}
-use Rattle.walks.specs.declared.CheckAnswer.{CheckAnswer}
-use Rattle.walks.specs.declared.CheckAnswer.TheVariants.{Passed, Refused}
 
 -- what each answer means: an accepted check's value is the number of arcs
-abbrev pub check_means : CheckAnswer → Says
-check_means (Passed n) = accepted n
-check_means (Refused n p) = refused n p
+abbrev pub check_means : Result ℕ Refused → Says
+check_means answer = means (λ arcs. arcs) answer
 
 -- ---- the refusals
 

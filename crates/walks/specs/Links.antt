@@ -1,15 +1,15 @@
 -- What the parts of the check compute, from the arrays of masks and lengths.
-use Rattle.std.specs.Prelude.{ℕ, ◌+◌, ◌≡◌, not, ◌&&◌, List, [], ◌∷◌, eqb, get_or}
+use Rattle.std.specs.Prelude.{ℕ, ◌≡◌, not, ◌&&◌, List, eqb, get_or, fold, sum_by}
 use Rattle.obligations.specs.Limits.{activities}
 use Rattle.obligations.specs.Sets.{member, union, minus, size}
 use Rattle.net.specs.Sides.{side_in}
 use Rattle.walks.specs.Below.{any_below, those}
-use Rattle.walks.specs.Rows.{has, rows, union_from, reach}
+use Rattle.walks.specs.Rows.{has, rows, reach}
 use Rattle.walks.specs.declared.Survey.{Survey}
 
 -- the members of each of the sets
 abbrev pub union_of : List ℕ → ℕ
-union_of sets = union_from 0 sets
+union_of sets = fold union 0 sets
 
 -- for each activity those that are named on its side
 unfoldable pub named_rows : List ℕ → List ℕ → List ℕ
@@ -32,9 +32,8 @@ unfoldable pub filled : List ℕ → ℕ
 filled lengths = those (λ a. not (eqb (get_or lengths a 0) 0))
 
 -- how many members the rows have together
-unfoldable pub sizes : List ℕ → ℕ
-sizes [] = 0
-sizes (m ∷ ms) = size m + sizes ms
+abbrev pub sizes : List ℕ → ℕ
+sizes rows = sum_by size rows
 
 -- what is found from the rows of those named on each activity's sides: the members of a set that are on no walk from start to
 -- end, the activities with a name that isn't answered, and the number of arcs

@@ -1,5 +1,5 @@
 -- Rows: for each activity a set of activities, those that are one step on from it. Reach is computed on them in rounds.
-use Rattle.std.specs.Prelude.{ℕ, zero, suc, ◌≡◌, Bool, true, List, [], ◌∷◌, map, get_or}
+use Rattle.std.specs.Prelude.{ℕ, zero, suc, ◌≡◌, Bool, true, List, [], ◌∷◌, map, get_or, fold}
 use Rattle.obligations.specs.Limits.{activities}
 use Rattle.obligations.specs.Sets.{member, single, union, members}
 
@@ -18,18 +18,13 @@ rows_from k (suc n) f = f k ∷ rows_from (suc k) n f
 unfoldable pub rows : (ℕ → ℕ) → List ℕ
 rows f = rows_from 0 activities f
 
--- the members of m and of each of the sets
-unfoldable pub union_from : ℕ → List ℕ → ℕ
-union_from m [] = m
-union_from m (x ∷ xs) = union_from (union m x) xs
-
 -- the rows of several activities
 abbrev pub rows_at : List ℕ → List ℕ → List ℕ
 rows_at rows which = map (λ a. get_or rows a 0) which
 
 -- the set, with all that are one step on from its members
 unfoldable pub one_round : List ℕ → ℕ → ℕ
-one_round next seen = union_from seen (rows_at next (members seen))
+one_round next seen = fold union seen (rows_at next (members seen))
 
 unfoldable pub rounds : ℕ → List ℕ → ℕ → ℕ
 rounds zero next seen = seen

@@ -4,8 +4,8 @@ use Rattle.obligations.specs.Limits.{activities}
 use Rattle.net.specs.Sides.{OnSide}
 use Rattle.net.specs.Orderly.{Orderly}
 use Rattle.net.specs.declared.Net.{Net}
-use Rattle.net.specs.declared.Side.{Side}
-use Rattle.net.specs.declared.Side.TheVariants.{Input, Output}
+use Rattle.net.specs.declared.sides.Side.{Side}
+use Rattle.net.specs.declared.sides.Side.TheVariants.{Input, Output}
 use Rattle.walks.specs.Arcs.{Names, Arc}
 
 -- the second number is reached from the first by steps, none or more; a number may be visited more than once

@@ -6,24 +6,17 @@
 mod arcs;
 mod reach;
 
-ghost use Rattle.std.specs.Prelude.{◌<◌, ◌≡◌, true, length};
+ghost use Rattle.std.specs.Prelude.{◌<◌, ◌≡◌, true};
 ghost use Rattle.obligations.specs.Limits.{activities};
 ghost use Rattle.obligations.specs.Sets.{union};
-ghost use Rattle.net.specs.Refusals.{accepted};
-ghost use Rattle.net.specs.Sides.{net_of};
+ghost use Rattle.net.specs.Refusals.{accepted, means, refusal_number};
 ghost use Rattle.net.specs.Orderly.{orderly};
 ghost use Rattle.walks.specs.Links.{union_of, filled, RowSurvey};
-ghost use Rattle.walks.specs.Check.{check_means, surveyed, pass_says, check_says};
+ghost use Rattle.walks.specs.Check.{check_means, none_in, surveyed, pass_says, check_says};
 
-use net::{LISTS, Net, PLACES, is_orderly, refusal};
+use arcs::Rows;
+use net::{LISTS, Net, Refusal, Refused, is_orderly};
 use obligations::sets;
-
-// Passed: the number of arcs. Refused: the refusal's number and the place that is returned with it.
-#[derive(Clone, Copy)]
-pub enum CheckAnswer {
-    Passed { arcs: u32 },
-    Refused { number: u32, place: u32 },
-}
 
 // The activities of a net that are on no walk from start to end, those that name one which never names them back, and the
 // number of its arcs.
@@ -34,83 +27,59 @@ struct Survey {
     arcs: u32,
 }
 
-// The net check.
-pub fn check(net: Net) -> CheckAnswer
+// The net check, which answers the number of arcs.
+pub fn check(net: Net) -> Result<u32, Refused>
     ensures { check_means result ≡ check_says net }
 {
-    if !is_orderly(net) {
-        return CheckAnswer::Refused {
-            number: refusal::DISORDERLY,
-            place: 0,
-        };
+    if !is_orderly(&net) {
+        return Err(Refusal::Disorderly.at(0));
     }
-    let start = net.start;
-    let end = net.end;
-    check_lent(
-        start,
-        end,
-        &net.inputs,
-        &net.input_len,
-        &net.outputs,
-        &net.output_len,
-    )
+    check_lent(&net)
 }
 
-// The check of an orderly net, with its arrays lent, so that it isn't copied. Callers that have tested the record call this. Counts
-// have no part in it, and the contract speaks of the net with counts 0.
-pub fn check_lent<'a>(
-    start: u32,
-    end: u32,
-    inputs: &'a [u32; PLACES],
-    input_len: &'a [u32; LISTS],
-    outputs: &'a [u32; PLACES],
-    output_len: &'a [u32; LISTS],
-) -> CheckAnswer
-    requires { orderly (net_of start end inputs.now input_len.now outputs.now output_len.now) ≡ true }
-    ensures { check_means result ≡ pass_says (net_of start end inputs.now input_len.now outputs.now output_len.now) }
+// The check of an orderly net that is lent, so that it isn't copied. Callers that have tested the record call this.
+pub fn check_lent(net: &Net) -> Result<u32, Refused>
+    requires { orderly net.now ≡ true }
+    ensures { check_means result ≡ pass_says net.now }
 {
-    let input_names = arcs::named_rows(inputs, input_len);
-    let output_names = arcs::named_rows(outputs, output_len);
-    let on_inputs = on_sides(&input_names, input_len);
-    let on_outputs = on_sides(&output_names, output_len);
-    let ends = sets::with(sets::single(start), end);
+    let inputs = arcs::named_rows(&net.inputs);
+    let outputs = arcs::named_rows(&net.outputs);
+    let on_inputs = on_sides(&inputs, &net.inputs.lengths);
+    let on_outputs = on_sides(&outputs, &net.outputs.lengths);
+    let ends = sets::with(sets::single(net.start), net.end);
     let all = sets::union(ends, sets::union(on_inputs, on_outputs));
-    let survey = survey_rows(&input_names, &output_names, start, end, all);
-    told(survey.lost, survey.unanswered, survey.arcs)
+    told(survey_rows(&inputs, &outputs, net.start, net.end, all))
 }
 
-// What the check says of an orderly net with these activities on no walk, these with a name that isn't answered, and so many
-// arcs.
-fn told(lost: u32, unanswered: u32, arcs: u32) -> CheckAnswer
-    ensures { check_means result ≡ surveyed lost unanswered (accepted arcs) }
+// What the check says of an orderly net in which this has been found.
+fn told(found: Survey) -> Result<u32, Refused>
+    ensures { check_means result ≡ surveyed found.lost found.unanswered (accepted found.arcs) }
 {
-    if lost != 0 {
-        return CheckAnswer::Refused {
-            number: refusal::ON_NO_WALK,
-            place: u32::trailing_zeros(lost),
-        };
+    none_in(found.lost, Refusal::OnNoWalk)?;
+    none_in(found.unanswered, Refusal::NameUnanswered)?;
+    Ok(found.arcs)
+}
+
+// Refuses the lowest member of a set, if it has one.
+fn none_in(set: u32, refusal: Refusal) -> Result<(), Refused>
+    ensures { means (λ _. 0) result ≡ none_in set (refusal_number refusal) (accepted 0) }
+{
+    if set != 0 {
+        return Err(refusal.at(set.trailing_zeros()));
     }
-    if unanswered != 0 {
-        return CheckAnswer::Refused {
-            number: refusal::NAME_UNANSWERED,
-            place: u32::trailing_zeros(unanswered),
-        };
-    }
-    CheckAnswer::Passed { arcs: arcs }
+    Ok(())
 }
 
 // The activities with a set on this kind of side, and those named in one.
-fn on_sides<'a>(named: &'a [u32], lengths: &'a [u32]) -> u32
-    requires { length lengths.now ≡ activities }
+fn on_sides(named: &Rows, lengths: &[u32; LISTS]) -> u32
     ensures { result ≡ union (filled lengths.now) (union_of named.now) }
 {
     sets::union(arcs::filled(lengths), arcs::union_of(named))
 }
 
 // What the check finds, where the rows have those named on each activity's sides, and the set has the net's activities.
-fn survey_rows<'a>(inputs: &'a [u32], outputs: &'a [u32], start: u32, end: u32, all: u32) -> Survey
-    requires inputs_len { (length inputs.now ≡ activities) × (length outputs.now ≡ activities) }
-    requires start_lt_activities { (start < activities) × (end < activities) }
+fn survey_rows(inputs: &Rows, outputs: &Rows, start: u32, end: u32, all: u32) -> Survey
+    requires ends_are_activities { (start < activities) × (end < activities) }
     ensures { RowSurvey inputs.now outputs.now start end all result }
 {
     let next = arcs::links(outputs, inputs);

@@ -1,31 +1,12 @@
--- `sizes` meets its contract. The loop's invariant: the members of all rows are those counted and those of the rows left, and
--- each row passed has at most 32. Assumes nothing.
-use Prim.Native.Nat.{◌≤◌}
-use mathlib.Core.Path.{◌≡◌}
-use native.Mathlib.Omega.{arith}
-use lib.ListN.{get_or}
+-- `sizes` meets its contract: the sum is that of the definition, and fits, as no set has more than 32 members. Assumes nothing.
+use Rattle.std.proofs.Common.{rules, ◌<◌, ◌^◌, sum_by}
+use Rattle.std.proofs.iter.runs.Made.{chains}
 use Rattle.obligations.specs.Sets.{size}
-use Rattle.obligations.proofs.MemberLaws.{size_le}
-use Rattle.walks.proofs.RowLaws.{sizes-next, sizes-end}
+use Rattle.walks.proofs.RowLaws.{sizes_fit}
 use Rattle.walks.proofs.arcs.sizes.Goals as goal
 
-pub overflow_add-n : goal.overflow_add-n
-overflow_add-n c =
-    let row : let m = get_or c.args.rows.now c.loop-i.i 0 in (c.size-n.result ≡ size m) × (size m ≤ 32) =
-    (c.size-n.ensures, size_le _) in
-    omega (arith, row.0, row.1)
-
-pub loop-i-preserved : goal.loop-i-preserved
-loop-i-preserved c =
-    let row : let m = get_or c.args.rows.now c.loop-i.i 0 in (c.size-n.result ≡ size m) × (size m ≤ 32) =
-    (c.size-n.ensures, size_le _) in
-    let l = c.loop-i in
-    let m = c.args.rows.now in
-    let e = sizes-next m l.i (omega arith) in
-    (omega arith, omega (arith, row.0, row.1), omega (arith, row.0))
+pub sum-requires-clause-fits : goal.sum-requires-clause-fits
+sum-requires-clause-fits c = let fit : sum_by size c.args.rows.now < 2 ^ 32 = sizes_fit c.args.rows.now c.told-rows in search (rules, chains)
 
 pub returns : goal.returns
-returns c =
-    let l = c.loop-i in
-    let e = sizes-end c.args.rows.now l.i (omega arith) in
-    omega arith
+returns c = search (rules, chains)

@@ -1,44 +1,22 @@
--- `unlinked` meets its contract. The loop's invariant: the set has the activities passed whose row has a member that their row of
--- links lacks. Assumes nothing.
-use Prim.Native.Nat.{ℕ}
-use mathlib.Core.Path.{◌≡◌, refl, sym, ap, ◌∙◌}
-use native.Mathlib.Numerals.{add-one}
-use native.Mathlib.Omega.{arith}
-use lib.ListN.{get_or}
-use Rattle.obligations.specs.Sets.{single, union}
-use Rattle.walks.specs.Below.{with_if, those_below, those}
+-- `unlinked` meets its contract: the set has the activities that pass the definition's test, since a row has a member that the
+-- links lack exactly if it without them is not empty. Assumes nothing.
+use Rattle.std.proofs.Common.{◌≡◌, ◌&&◌, get_or, rules, ◌∙◌}
+use mathlib.Core.Bool.{not}
+use lib.Dec.{eqb}
+use Rattle.obligations.specs.Sets.{member, minus}
+use Rattle.walks.specs.Below.{any_below}
 use Rattle.walks.specs.Rows.{has}
 use Rattle.walks.specs.Links.{unlinked}
-use Rattle.walks.proofs.BelowLaws.{some_lacked, none_lacked}
+use Rattle.walks.proofs.BelowLaws.{those_are, lacked}
 use Rattle.walks.proofs.arcs.unlinked.Goals as goal
-use Rattle.walks.proofs.arcs.unlinked.Goals.{then-minus-ne0, else-minus-ne0}
-use Rattle.walks.proofs.arcs.unlinked.Invariants.{lacks}
-
-pub loop-a-init : goal.loop-a-init
-unfolding those_below
-loop-a-init c = (omega arith, refl)
-
-pub loop-a-preserved : goal.loop-a-preserved
-unfolding those_below with_if has
-loop-a-preserved c =
-    let l = c.loop-a in
-    let g = c.args in
-    let m = get_or g.own.now l.a 0 in
-    let n = get_or g.links.now l.a 0 in
-    let hm = (c.type_inv.own l.a).fits in
-    let hn = (c.type_inv.links l.a).fits in
-    let e = c.minus.ensures in (
-      omega arith,
-      rw (add-one l.a) (elim c.if-minus-ne0.branch [
-        | then-minus-ne0 w ↦ w.all-is ∙ w.with-all.ensures ∙ rw (some_lacked m n hm hn (λ z. w.if-minus-ne0.true (e ∙ z))) (ap (λ (s : ℕ). union s (single l.a)) l.invariant.1)
-        | else-minus-ne0 w ↦ w.all-is ∙ rw (none_lacked m n hm hn (sym e ∙ w.if-minus-ne0.false)) l.invariant.1
-      ]),
-    )
 
 pub returns : goal.returns
-unfolding unlinked those
+unfolding unlinked has
 returns c =
-    let l = c.loop-a in
-    let s = c.args in
-    let e : l.a ≡ 32 = omega arith in
-    l.invariant.1 ∙ ap (λ (n : ℕ). those_below n (lacks s.own.now s.links.now)) e
+    let own = c.args.own.now in
+    let links = c.args.links.now in
+    those_are (λ a. any_below 32 (λ b. has own a b && not (has links a b))) c.those.result c.those.type_inv
+    (λ k h.
+    let f = c.those.ensures k h in
+    let e : member c.those.result k ≡ not (eqb (minus (get_or own k 0) (get_or links k 0)) 0) = search rules in
+    e ∙ lacked (get_or own k 0) (get_or links k 0) (c.fits-own k) (c.fits-links k))
