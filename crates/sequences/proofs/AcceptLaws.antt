@@ -12,7 +12,8 @@ use lib.ListN.{length}
 use Rattle.obligations.specs.Limits.{positions}
 use Rattle.obligations.specs.State.{all_zero}
 use Rattle.obligations.specs.Trace.{first_no_activity, shaped, Shaped}
-use Rattle.obligations.specs.Sequence.{Binding, bindings, at, ψ, WellFormed, first_impossible}
+use Rattle.obligations.specs.Sequence.{bindings, at, ψ, WellFormed, first_impossible}
+use Rattle.obligations.specs.declared.sequence.Binding.{Binding}
 use Rattle.obligations.proofs.BoolLaws.{and_left, and_right, and_both}
 use Rattle.obligations.proofs.PositionLaws.{pass_first, first_pass}
 use Rattle.obligations.proofs.TraceLaws.{agree_iff, shaped_facts, facts_shaped, activities_below, below_activities}

@@ -12,12 +12,12 @@ use borrow.Author.Tests.{eq-eqb, eqb-true, ne_eqb}
 use lib.Dec.{eqb}
 use Rattle.obligations.specs.Tests.{indicator}
 use Rattle.obligations.specs.State.{total}
-use Rattle.obligations.specs.Sequence.{Binding}
+use Rattle.obligations.specs.declared.sequence.Binding.{Binding}
 use Rattle.net.specs.Limits.{most_uses}
 use Rattle.net.specs.Sides.{counts_on, count_of}
 use Rattle.net.specs.Orderly.{orderly}
 use Rattle.net.specs.declared.Net.{Net}
-use Rattle.net.specs.declared.Side.{Side}
+use Rattle.net.specs.declared.sides.Side.{Side}
 use Rattle.sequences.specs.Gain.{set_for, SetOf, uses, occurrences_of, Countable, topped_binding, with_binding, gained, fits, topped, countable}
 use Rattle.sequences.proofs.GrowthLaws.{Activities, with_binding_orderly, topped_binding_lem, with_binding_count, with_binding_sum, fits-first, fits_rest, set_first, set-later, set_cases}
 

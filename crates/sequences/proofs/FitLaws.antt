@@ -8,15 +8,16 @@ use mathlib.Core.List.{List, [], ◌∷◌}
 use mathlib.Core.Logic.{◌↔◌, ◌⊎◌, inl, inr, ⊎_elim}
 use native.Mathlib.Omega.{arith}
 use lib.ListN.{length}
-use Rattle.obligations.specs.Sequence.{Binding, at}
+use Rattle.obligations.specs.Sequence.{at}
+use Rattle.obligations.specs.declared.sequence.Binding.{Binding}
 use Rattle.obligations.proofs.BoolLaws.{and_both, true_or_false}
 use Rattle.net.specs.Limits.{sets}
 use Rattle.net.specs.Sides.{masks_of, lengths_of, empty_at, sets_on, OnSide}
 use Rattle.net.specs.Orderly.{orderly}
 use Rattle.net.specs.Put.{misplaced, side_says}
 use Rattle.net.specs.declared.Net.{Net}
-use Rattle.net.specs.declared.Side.{Side}
-use Rattle.net.specs.declared.Side.TheVariants.{Input, Output}
+use Rattle.net.specs.declared.sides.Side.{Side}
+use Rattle.net.specs.declared.sides.Side.TheVariants.{Input, Output}
 use Rattle.net.proofs.PutSideLaws.{refused_full}
 use Rattle.net.proofs.OrderlyLaws.{sets_length, orderly_at_most}
 use Rattle.net.proofs.DistinctLaws.{distinct_more, at_most-listed, fewer}
@@ -55,7 +56,7 @@ module _ (net : Net) (b : Binding) (o : orderly net ≡ true) (h : b.activity < 
   unfolding takes_binding takes_put with_use
   refused_exceeds pi po s k w =
       ⊎_elim (λ t. full_exceeds Output s po (rw t at k) w) (λ f. full_exceeds Input s pi f w)
-      (true_or_false (side_says net.inputs net.input_len net.start b.activity b.input).ok)
+      (true_or_false (side_says net.inputs.masks net.inputs.lengths net.start b.activity b.input).ok)
 
   -- the other positions fit after the first
   fits_after : takes_binding net b ≡ true → (s : List Binding) → Fits net (b ∷ s) → Fits (with_binding net b) s

@@ -1,7 +1,7 @@
 -- The sequence of a trace: its positions one by one, that it is well-formed where start and end stand as they have to, and
 -- that following is learning it. Each position takes the one obligation that the one before it handed on. Assumes nothing.
 use Prim.Native.Nat.{ℕ, zero, suc, ◌+◌, ◌*◌, ◌^◌, ◌≤◌, ◌<◌}
-use mathlib.Core.Path.{◌≡◌, refl, sym, ap, subst, ◌∙◌}
+use mathlib.Core.Path.{◌≡◌, refl, ap, ◌∙◌}
 use mathlib.Core.Bool.{true, false}
 use mathlib.Core.List.{List, [], ◌∷◌}
 use mathlib.Core.Logic.{⊎_elim}
@@ -12,21 +12,20 @@ use lib.ListN.{length, get_or, take, drop, drop_of_length-le}
 use lib.Seq.{drop-cons, sets, sets-eq, take_at}
 use Rattle.obligations.specs.Sets.{single}
 use Rattle.obligations.specs.State.{nothing, added}
-use Rattle.obligations.specs.Sequence.{Binding, words, at, completes}
+use Rattle.obligations.specs.Sequence.{bindings, words, at, completes}
+use Rattle.obligations.specs.declared.sequence.Binding.{Binding}
 use Rattle.obligations.proofs.BoolLaws.{and_both}
 use Rattle.obligations.proofs.SetLaws.{single_lt, lt_or_le}
 use Rattle.obligations.proofs.StateLaws.{after-added, possible_none, taken_none, added_none, handed_possible, handed_taken, nothing-zero}
-use Rattle.obligations.proofs.SequenceLaws.{bindings-words, words_nil, words_cons, length-words, held_at, completes_nil, completes_cons}
+use Rattle.obligations.proofs.SequenceLaws.{bindings-words, words_nil, words_cons, length-words, completes_nil, completes_cons}
 use Rattle.obligations.specs.Trace.{shaped}
 use Rattle.obligations.proofs.TraceLaws.{shaped_ext}
-use Rattle.net.specs.Orderly.{orderly}
+use Rattle.net.specs.Refusals.{refused}
 use Rattle.net.specs.declared.Net.{Net}
 use Rattle.sequences.specs.Statements.{Words}
-use Rattle.sequences.specs.Follow.{followed_from, followed, follow_positions, follow_says, follow_gives, FollowDone}
-use Rattle.sequences.specs.Inner.{WithinLimits, TraceWithinLimits, limits_means, TraceLimitsOf, GainDone, RefusedWith, next_set, TraceDone}
-use Rattle.sequences.specs.declared.Limited.{Limited}
-use Rattle.sequences.specs.declared.Limited.TheVariants.{Within, Beyond}
-use Rattle.sequences.specs.declared.LearnResult.{LearnResult}
+use Rattle.sequences.specs.Learn.{gain_says}
+use Rattle.sequences.specs.Follow.{followed_from, followed, follow_positions}
+use Rattle.sequences.specs.Inner.{WithinLimits, TraceWithinLimits, next_set}
 
 -- ---- position by position
 
@@ -75,17 +74,17 @@ front_words buf s n e h =
     let l : length (words s) ≡ 3 * n = length-words s ∙ ap (λ (k : ℕ). 3 * k) e in
     ap (take (3 * n)) (sets-eq (words s) buf 0 (omega arith)) ∙ take_at (words s) (drop (0 + length (words s)) buf) (3 * n) l
 
-pub followed-positions : (t : List ℕ) (n : ℕ) → TraceWithinLimits t n → WithinLimits (words (followed t)) n
-followed-positions t n p = record {
-  whole = length-words (followed t) ∙ ap (λ (k : ℕ). 3 * k) (length-followed 0 t ∙ p.whole);
-  few = p.few;
-  activities_only = λ i h. subst (λ (a : ℕ). a < 32) (sym (word i h)) (p.activities_only i h);
-}
-  where
-    word : (i : ℕ) → i < n → get_or (words (followed t)) (3 * i) 0 ≡ get_or t i 0
-    word i h =
-        sym (held_at (words (followed t)) i (omega (arith, ap length (bindings-words (followed t)), length-followed 0 t, p.whole))).activity_held
-        ∙ ap (λ (s : List Binding). (at s i).activity) (bindings-words (followed t)) ∙ followed-activity 0 t i (omega (arith, p.whole))
+pub followed-within : (t : List ℕ) → TraceWithinLimits t → WithinLimits (words (followed t))
+followed-within t p =
+    let e : bindings (words (followed t)) ≡ followed t = bindings-words (followed t) in
+    let n : length (bindings (words (followed t))) ≡ length t = ap length e ∙ length-followed 0 t in
+    record {
+      whole = omega (arith, length-words (followed t), length-followed 0 t, n);
+      few = omega (arith, n, p.few);
+      activities_only = λ i h.
+          let l : i < length t = omega (arith, n) in
+          rw (e, followed-activity 0 t i l) (p.activities_only i l);
+    }
 
 -- ---- each hands one obligation to the next
 
@@ -113,38 +112,20 @@ below_all (a ∷ t) h = (h 0 (omega arith), below_all t (λ i l. h (suc i) (omeg
 pub followed-completes : (t : List ℕ) → ((i : ℕ) → i < length t → get_or t i 0 < 32) → 0 < length t → completes nothing (followed t) ≡ true
 followed-completes t h l = from_first t (below_all t h) l
 
--- ---- the chain of follow's refusals
-
 -- the code's test of the shape on the trace's words
-pub shaped-trace : (start end : ℕ) (t : List ℕ) (n : ℕ) → length t ≡ n → shaped start end (length t) (λ i. get_or t i 0) ≡ shaped start end n (λ i. get_or t (1 * i) 0)
-shaped-trace start end t n e =
-    ap (λ (k : ℕ). shaped start end k (λ i. get_or t i 0)) e ∙ shaped_ext start end n (λ i. get_or t i 0) (λ i. get_or t (1 * i) 0) (λ i l. ap (λ (k : ℕ). get_or t k 0) (omega arith))
+pub shaped-trace : (start end : ℕ) (t : List ℕ) → shaped start end (length t) (λ i. get_or t i 0) ≡ shaped start end (length t) (λ i. get_or t (1 * i) 0)
+shaped-trace start end t = shaped_ext start end (length t) (λ i. get_or t i 0) (λ i. get_or t (1 * i) 0) (λ i l. ap (λ (k : ℕ). get_or t k 0) (omega arith))
 
-module _ (net : Net) (t : List ℕ) {r : LearnResult} where
-  pub refused_trace_ends : shaped net.start net.end (length t) (λ i. get_or t i 0) ≡ false → RefusedWith net 7 0 r → TraceDone net t r
+-- ---- the chain of follow's refusals up to 7
+
+module _ (net : Net) (t : List ℕ) where
+  pub follow_ends : shaped net.start net.end (length t) (λ i. get_or t i 0) ≡ false → refused 7 0 ≡ follow_positions net t
   unfolding follow_positions
-  refused_trace_ends f w = record { says = rw f w.says; gives = rw f w.gives }
+  follow_ends f = rw f
 
-  pub followed_or_full : shaped net.start net.end (length t) (λ i. get_or t i 0) ≡ true → GainDone net (followed t) r → TraceDone net t r
+  pub follow_gains : shaped net.start net.end (length t) (λ i. get_or t i 0) ≡ true → gain_says net (followed t) ≡ follow_positions net t
   unfolding follow_positions
-  followed_or_full h w = record { says = rw h w.says; gives = rw h w.gives }
-
-  pub follow_disorderly : orderly net ≡ false → RefusedWith net 2 0 r → FollowDone net t r
-  unfolding follow_says follow_gives
-  follow_disorderly f w = record { says = rw f w.says; gives = rw f w.gives }
-
-  module _ (o : orderly net ≡ true) (l : Limited) (d : TraceLimitsOf t l) where
-    pub follow_limits : (number place : ℕ) → l ≡ Beyond number place → RefusedWith net number place r → FollowDone net t r
-    unfolding follow_says follow_gives
-    follow_limits number place e w =
-        let q = sym (d.says (follow_positions net t)) ∙ ap (λ (k : Limited). limits_means k (follow_positions net t)) e in
-        record { says = rw (o, q) w.says; gives = rw (o, q) w.gives }
-
-    pub follow_done : (n : ℕ) → l ≡ Within n → TraceDone net t r → FollowDone net t r
-    unfolding follow_says follow_gives
-    follow_done n e w =
-        let q = sym (d.says (follow_positions net t)) ∙ ap (λ (k : Limited). limits_means k (follow_positions net t)) e in
-        record { says = rw (o, q) w.says; gives = rw (o, q) w.gives }
+  follow_gains h = rw h
 
 -- ---- where each word of a trace has 32 bits, each word of its sequence has
 

@@ -2,7 +2,7 @@
 -- sequence in which each position hands one obligation to the next. Assumes nothing.
 use Prim.Native.Nat.{ℕ, zero, suc, ◌+◌, ◌*◌, ◌%◌, ◌<◌}
 use mathlib.Core.Path.{◌≡◌, refl, sym, ap, subst, ◌∙◌}
-use mathlib.Core.Bool.{true, false}
+use mathlib.Core.Bool.{true}
 use mathlib.Core.List.{List, [], ◌∷◌}
 use mathlib.Core.Logic.{◌↔◌, ⊎_elim}
 use native.Mathlib.Decide.{ℕ_discrete as dec_eq}
@@ -14,13 +14,14 @@ use Rattle.obligations.specs.Limits.{positions}
 use Rattle.obligations.specs.Sets.{single}
 use Rattle.obligations.specs.State.{all_zero}
 use Rattle.obligations.specs.Trace.{first_no_activity, shaped}
-use Rattle.obligations.specs.Sequence.{Binding, words, at, ψ, first_impossible}
+use Rattle.obligations.specs.Sequence.{words, at, ψ, first_impossible}
+use Rattle.obligations.specs.declared.sequence.Binding.{Binding}
 use Rattle.obligations.proofs.BoolLaws.{same_test, true_or_false}
 use Rattle.obligations.proofs.SetLaws.{lt_or_le}
 use Rattle.obligations.proofs.MemberLaws.{single-filled}
 use Rattle.obligations.proofs.TraceLaws.{no_activity_ext, activities_below, shaped_ext, shaped_facts}
 use Rattle.obligations.proofs.SequenceLaws.{bindings-words, length-words, completes_each, completes-zero, each_from-possible}
-use Rattle.net.specs.Refusals.{Says, refused}
+use Rattle.net.specs.Refusals.{Says}
 use Rattle.net.specs.Orderly.{orderly}
 use Rattle.net.specs.declared.Net.{Net}
 use Rattle.net.specs.Chains.{unless, none_at}
@@ -30,7 +31,8 @@ use Rattle.sequences.specs.Learn.{first_wrongly_empty, gain_says, learn_position
 use Rattle.sequences.specs.Follow.{followed_from, followed, follow_positions, follow_says, follow_gives}
 use Rattle.sequences.specs.Statements.{FollowIsLearn}
 use Rattle.sequences.proofs.AcceptLaws.{EmptyWhere, facts_empty}
-use Rattle.sequences.proofs.FollowLaws.{length-followed, followed-activity, followed-completes}
+use Rattle.sequences.proofs.FollowLaws.{length-followed, followed-activity, followed-completes, follow_ends, follow_gains}
+use Rattle.sequences.proofs.LearnLaws.{learn_ends}
 
 -- ---- the sets of the sequence
 
@@ -111,18 +113,6 @@ same_limits t =
     (same_test (leb (3 * length t) (3 * positions)) (leb (length t) positions) (λ e. le-leb (length t) positions (omega (arith, leb-true (3 * length t) (3 * positions) e))) (λ e. le-leb (3 * length t) (3 * positions) (omega (arith, leb-true (length t) positions e))))
 
 -- each chain from refusal 7 on, by its tests
-follow_ends : (net : Net) (t : List ℕ) → shaped net.start net.end (length t) (λ i. get_or t i 0) ≡ false → follow_positions net t ≡ refused 7 0
-unfolding follow_positions
-follow_ends net t f = rw f
-
-follow-fits : (net : Net) (t : List ℕ) → shaped net.start net.end (length t) (λ i. get_or t i 0) ≡ true → follow_positions net t ≡ gain_says net (followed t)
-unfolding follow_positions
-follow-fits net t h = rw h
-
-learn_ends : (net : Net) (s : List Binding) → shaped net.start net.end (length s) (λ i. (at s i).activity) ≡ false → learn_positions net s ≡ refused 7 0
-unfolding learn_positions
-learn_ends net s f = rw f
-
 learn-fits : (net : Net) (s : List Binding) → shaped net.start net.end (length s) (λ i. (at s i).activity) ≡ true → first_wrongly_empty s ≡ 0 → first_impossible s ≡ 0 → all_zero (ψ s) ≡ true
     → learn_positions net s ≡ gain_says net s
 unfolding learn_positions
@@ -130,14 +120,14 @@ learn-fits net s h e p z = rw (h, e, p, z)
 
 same-positions : (net : Net) (t : List ℕ) → first_no_activity (length t) (λ i. get_or t i 0) ≡ 0 → follow_positions net t ≡ learn_positions net (followed t)
 same-positions net t e =
-    ⊎_elim good (λ f. follow_ends net t f ∙ sym (learn_ends net (followed t) (same_shape net.start net.end t ∙ f))) (true_or_false (shaped net.start net.end (length t) (λ i. get_or t i 0)))
+    ⊎_elim good (λ f. sym (follow_ends net t f) ∙ learn_ends net (followed t) (same_shape net.start net.end t ∙ f)) (true_or_false (shaped net.start net.end (length t) (λ i. get_or t i 0)))
   where
     good : shaped net.start net.end (length t) (λ i. get_or t i 0) ≡ true → follow_positions net t ≡ learn_positions net (followed t)
     good h =
         let below = activities_below (length t) (λ i. get_or t i 0) e in
         let two = (shaped_facts net.start net.end (length t) (λ i. get_or t i 0) h).two in
         let some : 0 < length t = omega arith in
-        follow-fits net t h ∙ sym (learn-fits net (followed t) (same_shape net.start net.end t ∙ h) (followed_empty t below) (followed_possible t below some) (followed_zero t below some))
+        sym (follow_gains net t h) ∙ sym (learn-fits net (followed t) (same_shape net.start net.end t ∙ h) (followed_empty t below) (followed_possible t below some) (followed_zero t below some))
 
 pub follow_says_lem : (net : Net) (t : List ℕ) → follow_says net t ≡ learn_says net (words (followed t))
 unfolding follow_says learn_says trace_within_limits within_limits

@@ -1,60 +1,56 @@
--- The loop that gains a sequence's sets and counts their uses: what holds after i positions, one position more, and its ways out.
--- What is still to be gained into the arrays so far is what is to be gained into the net given. Assumes nothing.
+-- The loop that gains a sequence's sets and counts their uses: what holds where some positions are left, one position more, and its
+-- ways out. What is still to be gained into the net so far is what is to be gained into the net given. Assumes nothing.
 use Prim.Native.Nat.{ℕ, suc, ◌+◌, ◌*◌, ◌≤◌, ◌<◌}
 use mathlib.Core.Path.{◌≡◌, refl, sym, ap, ◌∙◌}
 use mathlib.Core.Bool.{Bool, true, false, cond}
-use mathlib.Core.List.{List, ◌∷◌}
-use native.Mathlib.Numerals.{add-one}
+use mathlib.Core.List.{List, [], ◌∷◌}
+use mathlib.Core.Logic.{⊎_elim}
 use native.Mathlib.Omega.{arith}
-use mathlib.Core.Logic.{◌⊎◌, inl, inr, ⊎_elim}
 use borrow.Author.Tests.{eq-eqb, ne_eqb}
 use lib.Dec.{ltb}
-use lib.ListN.{length, get_or, drop, length-set, drop_of_length-le}
-use lib.Seq.{drop-cons}
-use Rattle.obligations.specs.Sequence.{Binding, at}
-use Rattle.obligations.proofs.BoolLaws.{true_or_false, false-not-true}
+use lib.ListN.{length, get_or, length-set}
+use Rattle.std.proofs.Common.{Result, Ok, Err}
 use Rattle.obligations.specs.Limits.{activities}
+use Rattle.obligations.specs.Tests.{indicator}
+use Rattle.obligations.specs.declared.sequence.Binding.{Binding}
+use Rattle.obligations.proofs.BoolLaws.{true_or_false, false-not-true}
 use Rattle.net.specs.Limits.{places, most_uses}
-use Rattle.net.specs.Refusals.{Says, accepted, refused}
+use Rattle.net.specs.Refusals.{Says, accepted, refused, refusal_number}
 use Rattle.net.specs.Sides.{net_size, place_on}
-use Rattle.net.specs.Inner.{OrderlySides, placed_means, CountedDone}
+use Rattle.net.specs.Inner.{OrderlySides, CountedDone}
 use Rattle.net.specs.Orderly.{orderly}
-use Rattle.net.specs.Put.{side_says, put_masks, put_lengths, put_counts}
+use Rattle.net.specs.Put.{side_says, put_masks, put_lengths, put_counts, sides_in}
 use Rattle.net.specs.declared.Net.{Net}
 use Rattle.net.specs.declared.putting.Placed.{Placed}
-use Rattle.net.specs.declared.putting.Placed.TheVariants.{New, Present, Refused}
-use Rattle.net.specs.declared.Side.TheVariants.{Input, Output}
+use Rattle.net.specs.declared.refusal.Refusal.{Refusal}
+use Rattle.net.specs.declared.refusal.Refusal.TheVariants.{FullSide}
+use Rattle.net.specs.declared.sides.Sides.{Sides}
+use Rattle.net.specs.declared.sides.Side.TheVariants.{Input, Output}
 use Rattle.net.proofs.PutSideLaws.{place_below, length-put_counts, put_side-total, put_side_orderly, side_value}
 use Rattle.net.proofs.OrderlyLaws.{orderly_sides, orderly_counts}
 use Rattle.sequences.specs.Gain.{raised_at, topped_at, used_counts, topped_counts, with_use, takes_put, topped_use, with_binding, takes_binding, topped_binding, gained, fits, topped}
-use Rattle.sequences.specs.Learn.{learn_means, new_sets}
-use Rattle.sequences.specs.Inner.{gained_by, Raised, SetGained, GainDone, RefusedWith}
-use Rattle.sequences.specs.declared.LearnResult.{LearnResult}
-use Rattle.sequences.specs.declared.gaining.Gained.{Gained}
-use Rattle.sequences.specs.declared.gaining.Gained.TheVariants.{Added, NoRoom}
-
--- the net with other arrays
-abbrev pub net_with : Net → List ℕ → List ℕ → List ℕ → List ℕ → List ℕ → List ℕ → Net
-net_with net inputs input_len input_counts outputs output_len output_counts =
-    record { start = net.start; end = net.end; inputs = inputs; outputs = outputs; input_len = input_len; output_len = output_len; input_counts = input_counts; output_counts = output_counts }
+use Rattle.sequences.specs.Learn.{gain_says, new_sets}
+use Rattle.sequences.specs.Inner.{gained_by, SetGained}
+use Rattle.sequences.specs.declared.gaining.Added.{Added}
+use Rattle.sequences.proofs.GrowthLaws.{Activities}
 
 -- ---- what a set adds
 
-no_room : (says : Says) (tops : ℕ) → gained_by says tops ≡ NoRoom → says.ok ≡ false
+no_room : (says : Says) (tops : ℕ) (e : Refusal) → ◌≡◌ {A = Result Added Refusal} (Err e) (gained_by says tops) → (says.ok ≡ false) × (e ≡ FullSide)
 unfolding gained_by
-no_room says tops e = go says.ok e
+no_room says tops e q = go says.ok q
   where
-    go : (t : Bool) → cond t (Added says.value tops) NoRoom ≡ NoRoom → t ≡ false
-    go true q = absurd (let z : ◌≡◌ {A = ℕ} 0 1 = cc in omega arith)
-    go false q = refl
+    go : (t : Bool) → ◌≡◌ {A = Result Added Refusal} (Err e) (cond t (Ok (record { sets = says.value; topped = tops })) (Err FullSide)) → (t ≡ false) × (e ≡ FullSide)
+    go true q = cc
+    go false q = (refl, cc)
 
-took : (says : Says) (tops u v : ℕ) → gained_by says tops ≡ Added u v → (says.ok ≡ true) × (u ≡ says.value) × (v ≡ tops)
+took : (says : Says) (tops : ℕ) (x : Added) → ◌≡◌ {A = Result Added Refusal} (Ok x) (gained_by says tops) → (says.ok ≡ true) × (x.sets ≡ says.value) × (x.topped ≡ tops)
 unfolding gained_by
-took says tops u v e = go says.ok e
+took says tops x q = go says.ok q
   where
-    go : (t : Bool) → cond t (Added says.value tops) NoRoom ≡ Added u v → (t ≡ true) × (u ≡ says.value) × (v ≡ tops)
+    go : (t : Bool) → ◌≡◌ {A = Result Added Refusal} (Ok x) (cond t (Ok (record { sets = says.value; topped = tops })) (Err FullSide)) → (t ≡ true) × (x.sets ≡ says.value) × (x.topped ≡ tops)
     go true q = (refl, cc, cc)
-    go false q = absurd (let z : ◌≡◌ {A = ℕ} 0 1 = cc in omega arith)
+    go false q = cc
 
 one_topped : (counts : List ℕ) (i : ℕ) → topped_at counts i ≤ 1
 unfolding topped_at
@@ -70,173 +66,164 @@ length_used masks lengths counts empty a m o long h =
 
 -- ---- what a put and a raise leave
 
-module _ (masks lengths counts : List ℕ) (empty a m : ℕ) (p : Placed) (masks' lengths' put-counts : List ℕ) (d : CountedDone masks lengths counts empty a m p masks' lengths' put-counts) where
-  said_new : (x : ℕ) → p ≡ New x → side_says masks lengths empty a m ≡ accepted 1
-  said_new x e = sym d.side_done.says ∙ ap placed_means e
+module _ (sides : Sides) (empty a m : ℕ) where
+  abbrev side_answer : Says
+  side_answer = side_says sides.masks sides.lengths empty a m
 
-  said_present : (x : ℕ) → p ≡ Present x → side_says masks lengths empty a m ≡ accepted 0
-  said_present x e = sym d.side_done.says ∙ ap placed_means e
+  module _ (p : Placed) (put : Sides) (d : CountedDone sides.masks sides.lengths sides.counts empty a m (Ok p) put.masks put.lengths put.counts) where
+    accepts : side_answer.ok ≡ true
+    accepts = ap (λ (s : Says). s.ok) (sym d.side_done.says)
 
-  pub raise_below : OrderlySides masks lengths empty → a < activities → (x : ℕ) → (p ≡ New x) ⊎ (p ≡ Present x) → x < places
-  raise_below o h x w =
-      let ok : (side_says masks lengths empty a m).ok ≡ true = ⊎_elim (λ e. ap (λ (s : Says). s.ok) (said_new x e)) (λ e. ap (λ (s : Says). s.ok) (said_present x e)) w in
-      omega (arith, d.side_done.place_is x w, place_below masks lengths empty a m o h ok)
+    pub raise_below : OrderlySides sides.masks sides.lengths empty → a < activities → p.at < places
+    raise_below o h = omega (arith, d.side_done.place_is p refl, place_below sides.masks sides.lengths empty a m o h accepts)
 
-  gained_there : (new x v : ℕ) (counts' : List ℕ) → side_says masks lengths empty a m ≡ accepted new → x ≡ place_on masks lengths a m → Raised put-counts x v counts'
-      → SetGained masks lengths counts empty a m (Added new v) masks' lengths' counts'
+    pub gained_set : (tops : ℕ) (counts' : List ℕ) → tops ≡ topped_at put.counts p.at → counts' ≡ raised_at put.counts p.at
+        → SetGained sides empty a m (Ok (record { sets = indicator p.new; topped = tops })) (sides_in put.masks put.lengths counts')
+    unfolding gained_by
+    gained_set tops counts' t c =
+        let q : p.at ≡ place_on sides.masks sides.lengths a m = d.side_done.place_is p refl in
+        record {
+          adds = rw (← d.side_done.says, t, d.counts_are, q);
+          masks_are = d.side_done.masks_are;
+          lengths_are = d.side_done.lengths_are;
+          counts_are = λ ok. c ∙ rw (d.counts_are, q);
+        }
+
+  pub gained_none : (e : Refusal) (put : Sides) → CountedDone sides.masks sides.lengths sides.counts empty a m (Err e) put.masks put.lengths put.counts
+      → SetGained sides empty a m (Err FullSide) put
   unfolding gained_by
-  gained_there new x v counts' e q r = record {
-    adds = rw (e, r.tops, d.counts_are, q);
-    masks_are = d.side_done.masks_are;
-    lengths_are = d.side_done.lengths_are;
-    counts_are = λ ok. r.counts_are ∙ rw (d.counts_are, q);
-  }
-
-  pub gained_new : (x v : ℕ) (counts' : List ℕ) → p ≡ New x → Raised put-counts x v counts' → SetGained masks lengths counts empty a m (Added 1 v) masks' lengths' counts'
-  gained_new x v counts' e r = gained_there 1 x v counts' (said_new x e) (d.side_done.place_is x (inl e)) r
-
-  pub gained_present : (x v : ℕ) (counts' : List ℕ) → p ≡ Present x → Raised put-counts x v counts' → SetGained masks lengths counts empty a m (Added 0 v) masks' lengths' counts'
-  gained_present x v counts' e r = gained_there 0 x v counts' (said_present x e) (d.side_done.place_is x (inr e)) r
-
-  pub gained_refused : (n q : ℕ) → p ≡ Refused n q → SetGained masks lengths counts empty a m NoRoom masks' lengths' put-counts
-  unfolding gained_by
-  gained_refused n q e =
-      let f : side_says masks lengths empty a m ≡ refused n q = sym d.side_done.says ∙ ap placed_means e in
+  gained_none e put d =
+      let f : side_answer.ok ≡ false = ap (λ (s : Says). s.ok) (sym d.side_done.says) in
       record {
         adds = rw f;
         masks_are = d.side_done.masks_are;
         lengths_are = d.side_done.lengths_are;
-        counts_are = λ ok. absurd (false-not-true (ap (λ (s : Says). s.ok) f) ok);
+        counts_are = λ ok. absurd (false-not-true f ok);
       }
 
--- what a set leaves of its side, where it was taken
-module _ (masks lengths counts : List ℕ) (empty a m : ℕ) (r : Gained) (masks' lengths' counts' : List ℕ) (d : SetGained masks lengths counts empty a m r masks' lengths' counts') where
-  pub refused_there : r ≡ NoRoom → (side_says masks lengths empty a m).ok ≡ false
-  refused_there e = no_room (side_says masks lengths empty a m) (topped_counts masks lengths counts empty a m) (sym d.adds ∙ e)
+  -- what a set leaves of its side, where it was taken
+  module _ (x : Added) (sides' : Sides) (d : SetGained sides empty a m (Ok x) sides') where
+    taken : (side_answer.ok ≡ true) × (x.sets ≡ side_answer.value) × (x.topped ≡ topped_counts sides.masks sides.lengths sides.counts empty a m)
+    taken = took side_answer (topped_counts sides.masks sides.lengths sides.counts empty a m) x d.adds
 
-  pub record Taken (u v : ℕ) : Type 0 where
-    pub ok : (side_says masks lengths empty a m).ok ≡ true
-    pub adds : u ≡ (side_says masks lengths empty a m).value
-    pub tops : v ≡ topped_counts masks lengths counts empty a m
-    pub masks_are : masks' ≡ put_masks masks lengths empty a m
-    pub lengths_are : lengths' ≡ put_lengths masks lengths empty a m
-    pub counts_are : counts' ≡ used_counts masks lengths counts empty a m
-    pub one_set : u ≤ 1
-    pub one_top : v ≤ 1
+    pub takes : side_answer.ok ≡ true
+    takes = taken.0
 
-  pub taken_there : (u v : ℕ) → r ≡ Added u v → Taken u v
-  taken_there u v e =
-      let t = took (side_says masks lengths empty a m) (topped_counts masks lengths counts empty a m) u v (sym d.adds ∙ e) in
-      record {
-        ok = t.0;
-        adds = t.1;
-        tops = t.2;
-        masks_are = d.masks_are;
-        lengths_are = d.lengths_are;
-        counts_are = d.counts_are t.0;
-        one_set = omega (arith, t.1, side_value masks lengths empty a m);
-        one_top = omega (arith, t.2, one_topped (put_counts masks lengths counts empty a m) (place_on masks lengths a m));
-      }
+    pub one_set : x.sets ≤ 1
+    one_set = omega (arith, taken.1, side_value sides.masks sides.lengths empty a m)
+
+    pub one_top : x.topped ≤ 1
+    one_top = omega (arith, taken.2, one_topped (put_counts sides.masks sides.lengths sides.counts empty a m) (place_on sides.masks sides.lengths a m))
+
+    sides_are : sides' ≡ sides_in (put_masks sides.masks sides.lengths empty a m) (put_lengths sides.masks sides.lengths empty a m) (used_counts sides.masks sides.lengths sides.counts empty a m)
+    sides_are = λ j. record { masks = d.masks_are j; lengths = d.lengths_are j; counts = d.counts_are taken.0 j }
 
 -- ---- the loop
 
--- after i positions, with the arrays so far, the number of sets added and of counts that couldn't be raised
-pub record Gaining (net : Net) (s : List Binding) (i : ℕ) (inputs input_len input_counts outputs output_len output_counts : List ℕ) (new tops : ℕ) : Type 0 where
-  pub inputs_orderly : OrderlySides inputs input_len net.start
-  pub outputs_orderly : OrderlySides outputs output_len net.end
-  pub input_counts_long : length input_counts ≡ places
-  pub output_counts_long : length output_counts ≡ places
-  pub gained_rest : gained net s ≡ gained (net_with net inputs input_len input_counts outputs output_len output_counts) (drop i s)
-  pub fits_rest : fits net s ≡ fits (net_with net inputs input_len input_counts outputs output_len output_counts) (drop i s)
-  pub topped_rest : topped net s ≡ tops + topped (net_with net inputs input_len input_counts outputs output_len output_counts) (drop i s)
-  pub grown : net_size (net_with net inputs input_len input_counts outputs output_len output_counts) ≡ net_size net + new
-  pub bounded : new ≤ 2 * i
-  pub few_tops : tops ≤ 2 * i
+-- where `rest` is left of the positions: the net so far, the number of sets added and of counts that couldn't be raised
+pub record Gaining (net : Net) (s : List Binding) (now : Net) (rest : List Binding) (new tops : ℕ) : Type 0 where
+  pub inputs_orderly : OrderlySides now.inputs.masks now.inputs.lengths now.start
+  pub outputs_orderly : OrderlySides now.outputs.masks now.outputs.lengths now.end
+  pub input_counts_long : length now.inputs.counts ≡ places
+  pub output_counts_long : length now.outputs.counts ≡ places
+  pub activities_only : Activities rest
+  pub gained_rest : gained net s ≡ gained now rest
+  pub fits_rest : fits net s ≡ fits now rest
+  pub topped_rest : topped net s ≡ tops + topped now rest
+  pub grown : net_size now ≡ net_size net + new
+  pub bounded : new + 2 * length rest ≤ 2 * length s
+  pub few_tops : tops + 2 * length rest ≤ 2 * length s
 
-pub gaining_start : (net : Net) (s : List Binding) → orderly net ≡ true → Gaining net s 0 net.inputs net.input_len net.input_counts net.outputs net.output_len net.output_counts 0 0
-gaining_start net s o = record {
+pub gaining_start : (net : Net) (s rest : List Binding) → rest ≡ s → orderly net ≡ true → Activities s → Gaining net s net rest 0 0
+gaining_start net s rest e o low = rw e (record {
   inputs_orderly = orderly_sides net o Input;
   outputs_orderly = orderly_sides net o Output;
   input_counts_long = (orderly_counts net o Input).counts_long;
   output_counts_long = (orderly_counts net o Output).counts_long;
+  activities_only = low;
   gained_rest = refl;
   fits_rest = refl;
   topped_rest = omega arith;
   grown = omega arith;
   bounded = omega arith;
   few_tops = omega arith;
-}
+})
 
-module _ (net : Net) (s : List Binding) (i : ℕ) (inputs input_len input_counts outputs output_len output_counts : List ℕ) (new tops : ℕ)
-    (g : Gaining net s i inputs input_len input_counts outputs output_len output_counts new tops) where
-  abbrev so_far : Net
-  so_far = net_with net inputs input_len input_counts outputs output_len output_counts
-
+module _ (net : Net) (s : List Binding) (now : Net) (rest : List Binding) (new tops : ℕ) (g : Gaining net s now rest new tops) where
   -- at the end
-  pub gaining_end : length s ≤ i → (gained net s ≡ so_far) × (fits net s ≡ true) × (new ≡ new_sets net s) × (tops ≡ topped net s)
-  unfolding gained fits topped
-  gaining_end h =
-      let d = drop_of_length-le s {i = i} h in
-      let e : gained net s ≡ so_far = g.gained_rest ∙ ap (gained so_far) d in
-      (e, g.fits_rest ∙ ap (fits so_far) d, omega (arith, g.grown, ap net_size e), omega (arith, g.topped_rest, ap (topped so_far) d))
+  module _ (e : rest ≡ []) where
+    pub all_gained : gained net s ≡ now
+    unfolding gained
+    all_gained = g.gained_rest ∙ ap (gained now) e
 
-  module _ (h : i < length s) (a x y : ℕ) (ea : a ≡ (at s i).activity) (ex : x ≡ (at s i).input) (ey : y ≡ (at s i).output) where
-    here : at s i ≡ record { activity = a; input = x; output = y }
-    here = λ j. record { activity = sym ea j; input = sym ex j; output = sym ey j }
+    all_fit : fits net s ≡ true
+    unfolding fits
+    all_fit = g.fits_rest ∙ ap (fits now) e
 
-    cut : drop i s ≡ record { activity = a; input = x; output = y } ∷ drop (i + 1) s
-    cut = rw add-one (drop-cons s i (record { activity = 0; input = 0; output = 0 }) h ∙ ap (λ (b : Binding). b ∷ drop (suc i) s) here)
+    all_topped : topped net s ≡ tops
+    unfolding topped
+    all_topped = omega (arith, g.topped_rest, ap (topped now) e)
 
-    pub no_input_room : (side_says inputs input_len net.start a x).ok ≡ false → fits net s ≡ false
+    pub gain_topped : (tops ≡ 0 → ⊥) → refused 21 0 ≡ gain_says net s
+    gain_topped z = rw (all_fit, ne_eqb (topped net s) 0 (λ t. z (sym all_topped ∙ t)))
+
+    pub gain_done : tops ≡ 0 → accepted new ≡ gain_says net s
+    gain_done z =
+        let n : new ≡ new_sets net s = omega (arith, g.grown, ap net_size all_gained) in
+        rw (all_fit, eq-eqb (topped net s) 0 (all_topped ∙ z)) (ap accepted n)
+
+  -- at one position more
+  module _ (b : Binding) (rest' : List Binding) (e : rest ≡ b ∷ rest') where
+    pub gaining_activity : b.activity < activities
+    gaining_activity = (rw e at g.activities_only) 0 (omega arith)
+
+    pub no_input_room : (r : Refusal) (inputs : Sides) → SetGained now.inputs now.start b.activity b.input (Err r) inputs → refused (refusal_number r) 0 ≡ gain_says net s
     unfolding fits takes_binding takes_put
-    no_input_room e = g.fits_rest ∙ ap (fits so_far) cut ∙ rw e
+    no_input_room r inputs d =
+        let f = no_room _ _ r d.adds in
+        let n : fits net s ≡ false = g.fits_rest ∙ ap (fits now) e ∙ rw f.0 in
+        rw (f.1, n)
 
-    pub no_output_room : (side_says inputs input_len net.start a x).ok ≡ true → (side_says outputs output_len net.end a y).ok ≡ false → fits net s ≡ false
-    unfolding fits takes_binding takes_put with_use
-    no_output_room t e = g.fits_rest ∙ ap (fits so_far) cut ∙ rw (t, e)
+    module _ (x : Added) (inputs : Sides) (dx : SetGained now.inputs now.start b.activity b.input (Ok x) inputs) where
+      pub no_output_room : (r : Refusal) (outputs : Sides) → SetGained now.outputs now.end b.activity b.output (Err r) outputs → refused (refusal_number r) 0 ≡ gain_says net s
+      unfolding fits takes_binding takes_put with_use
+      no_output_room r outputs d =
+          let f = no_room _ _ r d.adds in
+          let n : fits net s ≡ false = g.fits_rest ∙ ap (fits now) e ∙ rw (takes now.inputs now.start b.activity b.input x inputs dx, f.0) in
+          rw (f.1, n)
 
-    next : a < 32 → (side_says inputs input_len net.start a x).ok ≡ true → (side_says outputs output_len net.end a y).ok ≡ true
-        → Gaining net s (i + 1)
-        (put_masks inputs input_len net.start a x) (put_lengths inputs input_len net.start a x) (used_counts inputs input_len input_counts net.start a x)
-        (put_masks outputs output_len net.end a y) (put_lengths outputs output_len net.end a y) (used_counts outputs output_len output_counts net.end a y)
-        (new + ((side_says inputs input_len net.start a x).value + (side_says outputs output_len net.end a y).value))
-        (tops + (topped_counts inputs input_len input_counts net.start a x + topped_counts outputs output_len output_counts net.end a y))
-    unfolding gained fits topped with_binding takes_binding topped_binding with_use takes_put topped_use
-    next low tx ty = record {
-      inputs_orderly = put_side_orderly inputs input_len net.start a x g.inputs_orderly low;
-      outputs_orderly = put_side_orderly outputs output_len net.end a y g.outputs_orderly low;
-      input_counts_long = length_used inputs input_len input_counts net.start a x g.inputs_orderly g.input_counts_long low;
-      output_counts_long = length_used outputs output_len output_counts net.end a y g.outputs_orderly g.output_counts_long low;
-      gained_rest = g.gained_rest ∙ ap (gained so_far) cut;
-      fits_rest = g.fits_rest ∙ ap (fits so_far) cut ∙ rw (tx, ty);
-      topped_rest = omega (arith, g.topped_rest, ap (topped so_far) cut);
-      grown =
-          omega (arith, g.grown, put_side-total inputs input_len net.start a x (omega (arith, g.inputs_orderly.lengths_long)), put_side-total outputs output_len net.end a y (omega (arith, g.outputs_orderly.lengths_long)));
-      bounded = omega (arith, g.bounded, side_value inputs input_len net.start a x, side_value outputs output_len net.end a y);
-      few_tops =
-          omega (arith, g.few_tops, one_topped (put_counts inputs input_len input_counts net.start a x) (place_on inputs input_len a x), one_topped (put_counts outputs output_len output_counts net.end a y) (place_on outputs output_len a y));
-    }
+      module _ (y : Added) (outputs : Sides) (dy : SetGained now.outputs now.end b.activity b.output (Ok y) outputs) where
+        abbrev next : Net
+        next = record { start = now.start; end = now.end; inputs = inputs; outputs = outputs }
 
-    -- one position more
-    pub gaining_next : a < 32 → (rx ry : Gained) (inputs' inputLen' inputCounts' outputs' outputLen' outputCounts' : List ℕ) (ux vx uy vy : ℕ)
-        → (dx : SetGained inputs input_len input_counts net.start a x rx inputs' inputLen' inputCounts') (dy : SetGained outputs output_len output_counts net.end a y ry outputs' outputLen' outputCounts')
-        → rx ≡ Added ux vx → ry ≡ Added uy vy
-        → Gaining net s (i + 1) inputs' inputLen' inputCounts' outputs' outputLen' outputCounts' (new + (ux + uy)) (tops + (vx + vy))
-    gaining_next low rx ry inputs' inputLen' inputCounts' outputs' outputLen' outputCounts' ux vx uy vy dx dy ex' ey' =
-        let tx = taken_there inputs input_len input_counts net.start a x rx inputs' inputLen' inputCounts' dx ux vx ex' in
-        let ty = taken_there outputs output_len output_counts net.end a y ry outputs' outputLen' outputCounts' dy uy vy ey' in
-        rw (tx.masks_are, tx.lengths_are, tx.counts_are, ty.masks_are, ty.lengths_are, ty.counts_are, tx.adds, ty.adds, tx.tops, ty.tops) (next low tx.ok ty.ok)
+        next_is : next ≡ with_binding now b
+        unfolding with_binding with_use
+        next_is =
+            let p = sides_are now.inputs now.start b.activity b.input x inputs dx in
+            let q = sides_are now.outputs now.end b.activity b.output y outputs dy in
+            λ j. record { start = now.start; end = now.end; inputs = p j; outputs = q j }
 
--- ---- what the call says
-
-module _ (net : Net) (s : List Binding) {r : LearnResult} where
-  -- refused for want of room
-  pub gain_refused : fits net s ≡ false → RefusedWith net 12 0 r → GainDone net s r
-  gain_refused f n = record { says = rw f n.says; gives = rw f n.gives }
-
-  -- or because a count is at its top
-  pub gain_topped : fits net s ≡ true → (tops : ℕ) → tops ≡ topped net s → (tops ≡ 0 → ⊥) → RefusedWith net 21 0 r → GainDone net s r
-  gain_topped f tops e d n = let q = ne_eqb (topped net s) 0 (λ z. d (e ∙ z)) in record { says = rw (f, q) n.says; gives = rw (f, q) n.gives }
-
-pub gain_done : (net : Net) (s : List Binding) (r : LearnResult) → fits net s ≡ true → (tops : ℕ) → tops ≡ topped net s → tops ≡ 0 → learn_means r.answer ≡ accepted (new_sets net s) → r.net ≡ gained net s → GainDone net s r
-gain_done net s r f tops e z says gives = let q = eq-eqb (topped net s) 0 (sym e ∙ z) in record { says = rw (f, q) says; gives = rw (f, q) gives }
+        pub gaining_next : Gaining net s next rest' (new + (x.sets + y.sets)) (tops + (x.topped + y.topped))
+        unfolding gained fits topped with_binding takes_binding topped_binding takes_put topped_use with_use
+        gaining_next =
+            let tx = taken now.inputs now.start b.activity b.input x inputs dx in
+            let ty = taken now.outputs now.end b.activity b.output y outputs dy in
+            let xs = one_set now.inputs now.start b.activity b.input x inputs dx in
+            let ys = one_set now.outputs now.end b.activity b.output y outputs dy in
+            let xt = one_top now.inputs now.start b.activity b.input x inputs dx in
+            let yt = one_top now.outputs now.end b.activity b.output y outputs dy in
+            let n : length rest ≡ length rest' + 1 = ap length e ∙ omega arith in
+            record {
+              inputs_orderly = rw (dx.masks_are, dx.lengths_are) (put_side_orderly now.inputs.masks now.inputs.lengths now.start b.activity b.input g.inputs_orderly gaining_activity);
+              outputs_orderly = rw (dy.masks_are, dy.lengths_are) (put_side_orderly now.outputs.masks now.outputs.lengths now.end b.activity b.output g.outputs_orderly gaining_activity);
+              input_counts_long = rw (dx.counts_are tx.0) (length_used now.inputs.masks now.inputs.lengths now.inputs.counts now.start b.activity b.input g.inputs_orderly g.input_counts_long gaining_activity);
+              output_counts_long = rw (dy.counts_are ty.0) (length_used now.outputs.masks now.outputs.lengths now.outputs.counts now.end b.activity b.output g.outputs_orderly g.output_counts_long gaining_activity);
+              activities_only = λ i h. (rw e at g.activities_only) (suc i) (omega arith);
+              gained_rest = g.gained_rest ∙ ap (gained now) e ∙ ap (λ (k : Net). gained k rest') (sym next_is);
+              fits_rest = g.fits_rest ∙ ap (fits now) e ∙ rw (tx.0, ty.0) (ap (λ (k : Net). fits k rest') (sym next_is));
+              topped_rest = omega (arith, g.topped_rest, ap (topped now) e, ap (λ (k : Net). topped k rest') next_is, tx.2, ty.2);
+              grown =
+                  omega (arith, g.grown, ap net_size next_is, tx.1, ty.1, put_side-total now.inputs.masks now.inputs.lengths now.start b.activity b.input (omega (arith, g.inputs_orderly.lengths_long, gaining_activity)), put_side-total now.outputs.masks now.outputs.lengths now.end b.activity b.output (omega (arith, g.outputs_orderly.lengths_long, gaining_activity)));
+              bounded = omega (arith, g.bounded);
+              few_tops = omega (arith, g.few_tops);
+            }

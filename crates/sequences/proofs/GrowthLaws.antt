@@ -12,7 +12,8 @@ use lib.Dec.{eqb}
 use lib.ListN.{length}
 use Rattle.obligations.specs.Tests.{indicator}
 use Rattle.obligations.specs.State.{total}
-use Rattle.obligations.specs.Sequence.{Binding, at}
+use Rattle.obligations.specs.Sequence.{at}
+use Rattle.obligations.specs.declared.sequence.Binding.{Binding}
 use Rattle.obligations.proofs.BoolLaws.{and_left, and_right, true_or_false}
 use Rattle.net.specs.Limits.{most_uses}
 use Rattle.net.specs.Lists.{listed}
@@ -22,8 +23,8 @@ use Rattle.net.specs.Orderly.{orderly}
 use Rattle.net.specs.Put.{put_says, put_masks, put_lengths, put_counts, with_sides, put_gives}
 use Rattle.net.specs.Contained.{Contained}
 use Rattle.net.specs.declared.Net.{Net}
-use Rattle.net.specs.declared.Side.{Side}
-use Rattle.net.specs.declared.Side.TheVariants.{Input, Output}
+use Rattle.net.specs.declared.sides.Side.{Side}
+use Rattle.net.specs.declared.sides.Side.TheVariants.{Input, Output}
 use Rattle.net.proofs.SideLaws.{OrderlyCounts}
 use Rattle.net.proofs.OrderlyLaws.{orderly_sides, orderly_counts}
 use Rattle.net.proofs.PutSideLaws.{put_side_orderly, put_side_counted, put_side_holds, put_side_count, put_side_sum}

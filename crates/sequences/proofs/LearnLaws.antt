@@ -1,96 +1,90 @@
--- Refusal 9, position by position, and the chain of learn's refusals. Assumes nothing.
-use Prim.Native.Nat.{ℕ, ◌+◌, ◌<◌}
-use mathlib.Core.Path.{◌≡◌, sym, ap, ◌∙◌}
-use mathlib.Core.Bool.{Bool, true, false, ◌&&◌, beq, and-false}
-use mathlib.Core.List.{List}
-use borrow.Author.Tests.{ne_eqb}
+-- Refusal 9, position by position, and the chain of learn's refusals up to 11. Assumes nothing.
+use Prim.Native.Nat.{ℕ, ◌+◌, ◌*◌, ◌<◌}
+use mathlib.Core.Path.{◌≡◌, sym, ◌∙◌}
+use mathlib.Core.Bool.{true, false, ◌&&◌, beq, and-false}
+use mathlib.Core.List.{List, [], ◌∷◌}
 use native.Mathlib.Numerals.{add-one}
+use native.Mathlib.Omega.{arith}
+use native.Mathlib.Decide.{ℕ_discrete as dec_eq}
+use borrow.Author.Tests.{eq-eqb, ne_eqb}
 use lib.Dec.{eqb}
-use lib.ListN.{length}
-use Rattle.obligations.specs.Sequence.{Binding, bindings, at}
-use Rattle.obligations.proofs.BoolLaws.{and_both}
-use Rattle.obligations.proofs.PositionLaws.{AllPass, pass_first, fails_first}
+use lib.ListN.{length, drop}
+use Rattle.std.proofs.Common.{Some, None}
+use Rattle.obligations.specs.Tests.{position_of}
 use Rattle.obligations.specs.Trace.{shaped}
-use Rattle.net.specs.Refusals.{refused}
-use Rattle.net.specs.Orderly.{orderly}
+use Rattle.obligations.specs.Sequence.{at}
+use Rattle.obligations.specs.declared.sequence.Binding.{Binding}
+use Rattle.obligations.proofs.BoolLaws.{and_both}
+use Rattle.obligations.proofs.ListLaws.{drop_head, drop_end}
+use Rattle.obligations.proofs.PositionLaws.{AllPass, pass_first, fails_first, position_none, position_some, none_position, some_position}
+use Rattle.obligations.proofs.TraceLaws.{pass_more}
+use Rattle.net.specs.Refusals.{accepted, refused}
 use Rattle.net.specs.declared.Net.{Net}
-use Rattle.sequences.specs.Run.{ran}
-use Rattle.sequences.specs.Learn.{empty_agree, first_wrongly_empty, learn_positions, learn_says, learn_gives, LearnDone}
-use Rattle.sequences.specs.Inner.{limits_means, LimitsOf, GainDone, RefusedWith, PositionsDone}
-use Rattle.sequences.specs.declared.Limited.{Limited}
-use Rattle.sequences.specs.declared.Limited.TheVariants.{Within, Beyond}
-use Rattle.sequences.specs.declared.LearnResult.{LearnResult}
-use Rattle.sequences.specs.declared.Ran.TheVariants.{Impossible, LeftOver, Settled}
-use Rattle.sequences.proofs.RunLaws.{impossible_shown, left_shown, settled_shown}
+use Rattle.sequences.specs.Judge.{run_says}
+use Rattle.sequences.specs.Learn.{empty_agree, first_wrongly_empty, gain_says, learn_positions}
+use Rattle.sequences.proofs.RunLaws.{ran_accepted, ran_refused}
 
 -- ---- refusal 9
 
-module _ (s : List Binding) (i n : ℕ) (e : length s ≡ n) where
-  pub input_wrong : beq (eqb (at s i).input 0) (eqb i 0) ≡ false → empty_agree s i ≡ false
-  unfolding empty_agree
-  input_wrong f = rw f
+-- the loop has passed i positions, where `rest` is left of them, and at each the sets are empty and filled as they have to be
+pub record Agreeing (s : List Binding) (i : ℕ) (rest : List Binding) : Type 0 where
+  pub left : drop i s ≡ rest
+  pub agree : AllPass i (empty_agree s)
 
-  pub output_wrong : beq (eqb (at s i).output 0) (eqb (i + 1) n) ≡ false → empty_agree s i ≡ false
-  unfolding empty_agree
-  output_wrong f =
-      ap (λ (t : Bool). beq (eqb (at s i).input 0) (eqb i 0) && t) (ap (λ (k : ℕ). beq (eqb (at s i).output 0) (eqb (i + 1) k)) e ∙ f)
-      ∙ and-false (beq (eqb (at s i).input 0) (eqb i 0))
+module _ (s : List Binding) (i : ℕ) (rest : List Binding) (r : Agreeing s i rest) where
+  pub agreeing_end : rest ≡ [] → position_of (first_wrongly_empty s) ≡ None
+  unfolding first_wrongly_empty
+  agreeing_end e = position_none (pass_first (length s) (empty_agree s) (λ j l. r.agree j (omega (arith, drop_end s i (r.left ∙ e)))))
 
-  pub both_right : beq (eqb (at s i).input 0) (eqb i 0) ≡ true → beq (eqb (at s i).output 0) (eqb (i + 1) n) ≡ true → empty_agree s i ≡ true
-  unfolding empty_agree
-  both_right t u = and_both t (ap (λ (k : ℕ). beq (eqb (at s i).output 0) (eqb (i + 1) k)) e ∙ u)
+  module _ (b : Binding) (rest' : List Binding) (e : rest ≡ b ∷ rest') where
+    pub agreeing_inside : i < length s
+    agreeing_inside = (drop_head s i b rest' b (r.left ∙ e)).0
 
-pub wrongly_empty-at : (s : List Binding) (i : ℕ) → i < length s → AllPass i (empty_agree s) → empty_agree s i ≡ false → first_wrongly_empty s ≡ i + 1
-unfolding first_wrongly_empty
-wrongly_empty-at s i h all f = fails_first (length s) (empty_agree s) i (record { inside = h; before = all; fails = f }) ∙ sym (add-one i)
+    test : empty_agree s i ≡ beq (eqb b.input 0) (eqb i 0) && beq (eqb b.output 0) (eqb (i + 1) (length s))
+    unfolding empty_agree
+    test = rw (drop_head s i b rest' (record { activity = 0; input = 0; output = 0 }) (r.left ∙ e)).1
 
-pub wrongly_empty_none : (s : List Binding) → AllPass (length s) (empty_agree s) → first_wrongly_empty s ≡ 0
-unfolding first_wrongly_empty
-wrongly_empty_none s all = pass_first (length s) (empty_agree s) all
+    wrong_here : empty_agree s i ≡ false → position_of (first_wrongly_empty s) ≡ Some (i + 1)
+    unfolding first_wrongly_empty
+    wrong_here f = rw add-one (position_some (fails_first (length s) (empty_agree s) i (record { inside = agreeing_inside; before = r.agree; fails = f })))
+
+    pub input_wrong : beq (eqb b.input 0) (eqb i 0) ≡ false → position_of (first_wrongly_empty s) ≡ Some (i + 1)
+    input_wrong f = wrong_here (rw (test, f))
+
+    -- the code tells the last position by the number of words
+    module _ (size : ℕ) (w : size ≡ 3 * length s) where
+      last_same : eqb (3 * (i + 1)) size ≡ eqb (i + 1) (length s)
+      last_same = elim (dec_eq (i + 1) (length s)) [
+        | yes q ↦ rw (eq-eqb (3 * (i + 1)) size (omega arith), eq-eqb (i + 1) (length s) q)
+        | no d ↦ rw (ne_eqb (3 * (i + 1)) size (λ q. d (omega arith)), ne_eqb (i + 1) (length s) d)
+      ]
+
+      pub output_wrong : beq (eqb b.output 0) (eqb (3 * (i + 1)) size) ≡ false → position_of (first_wrongly_empty s) ≡ Some (i + 1)
+      output_wrong f = wrong_here (test ∙ simp (rw last_same at f, and-false))
+
+      pub agreeing_next : beq (eqb b.input 0) (eqb i 0) ≡ true → beq (eqb b.output 0) (eqb (3 * (i + 1)) size) ≡ true → Agreeing s (i + 1) rest'
+      agreeing_next x y = record {
+        left = (drop_head s i b rest' b (r.left ∙ e)).2;
+        agree = pass_more (empty_agree s) i r.agree (test ∙ and_both x (rw last_same at y));
+      }
 
 -- ---- the chain from refusal 7 on
 
-module _ (net : Net) (s : List Binding) {r : LearnResult} where
-  pub refused_ends : shaped net.start net.end (length s) (λ i. (at s i).activity) ≡ false → RefusedWith net 7 0 r → PositionsDone net s r
+module _ (net : Net) (s : List Binding) where
+  pub learn_ends : shaped net.start net.end (length s) (λ i. (at s i).activity) ≡ false → refused 7 0 ≡ learn_positions net s
   unfolding learn_positions
-  refused_ends f w = record { says = rw f w.says; gives = rw f w.gives }
+  learn_ends f = rw f
 
   module _ (h : shaped net.start net.end (length s) (λ i. (at s i).activity) ≡ true) where
-    pub refused_empty : (place : ℕ) → place ≡ first_wrongly_empty s → (place ≡ 0 → ⊥) → RefusedWith net 9 place r → PositionsDone net s r
+    pub learn_empty : (place : ℕ) → position_of (first_wrongly_empty s) ≡ Some place → refused 9 place ≡ learn_positions net s
     unfolding learn_positions
-    refused_empty place e ne w = record { says = rw (h, ← e, ne_eqb place 0 ne) w.says; gives = rw (h, ← e, ne_eqb place 0 ne) w.gives }
+    learn_empty place e = let p = some_position _ place e in rw (h, p.0, ne_eqb place 0 (λ z. omega (arith, p.1)))
 
-    module _ (e : first_wrongly_empty s ≡ 0) where
-      pub refused_impossible : (place : ℕ) → ran s ≡ Impossible place → RefusedWith net 10 place r → PositionsDone net s r
+    module _ (e : position_of (first_wrongly_empty s) ≡ None) where
+      pub learn_run : (n p : ℕ) → refused n p ≡ run_says s → refused n p ≡ learn_positions net s
       unfolding learn_positions
-      refused_impossible place q w =
-          let f = impossible_shown s place q in
-          record { says = rw (h, e, f.0) (w.says ∙ ap (refused 10) (sym f.1)); gives = rw (h, e, f.0) w.gives }
+      learn_run n p q = rw (h, none_position _ e) (ran_refused s (gain_says net s) n p q)
 
-      pub refused_left : ran s ≡ LeftOver → RefusedWith net 11 0 r → PositionsDone net s r
+      pub learn_gains : (peak : ℕ) → accepted peak ≡ run_says s → gain_says net s ≡ learn_positions net s
       unfolding learn_positions
-      refused_left q w = let f = left_shown s q in record { says = rw (h, e, f.0, f.1) w.says; gives = rw (h, e, f.0, f.1) w.gives }
-
-      pub gained_or_full : (k : ℕ) → ran s ≡ Settled k → GainDone net s r → PositionsDone net s r
-      unfolding learn_positions
-      gained_or_full k q w = let f = settled_shown s k q in record { says = rw (h, e, f.0, f.1) w.says; gives = rw (h, e, f.0, f.1) w.gives }
-
--- ---- the chain from refusal 2 on
-
-module _ (net : Net) (ws : List ℕ) {r : LearnResult} where
-  pub refused_disorderly : orderly net ≡ false → RefusedWith net 2 0 r → LearnDone net ws r
-  unfolding learn_says learn_gives
-  refused_disorderly f w = record { says = rw f w.says; gives = rw f w.gives }
-
-  module _ (o : orderly net ≡ true) (l : Limited) (d : LimitsOf ws l) where
-    pub refused_limits : (number place : ℕ) → l ≡ Beyond number place → RefusedWith net number place r → LearnDone net ws r
-    unfolding learn_says learn_gives
-    refused_limits number place e w =
-        let q = sym (d.says (learn_positions net (bindings ws))) ∙ ap (λ (k : Limited). limits_means k (learn_positions net (bindings ws))) e in
-        record { says = rw (o, q) w.says; gives = rw (o, q) w.gives }
-
-    pub learned_positions : (n : ℕ) → l ≡ Within n → PositionsDone net (bindings ws) r → LearnDone net ws r
-    unfolding learn_says learn_gives
-    learned_positions n e w =
-        let q = sym (d.says (learn_positions net (bindings ws))) ∙ ap (λ (k : Limited). limits_means k (learn_positions net (bindings ws))) e in
-        record { says = rw (o, q) w.says; gives = rw (o, q) w.gives }
+      learn_gains peak q = rw (h, none_position _ e) (sym (ran_accepted s (gain_says net s) peak q))

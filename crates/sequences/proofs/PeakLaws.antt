@@ -11,7 +11,8 @@ use lib.ListN.{length, take}
 use Rattle.obligations.specs.Limits.{activities}
 use Rattle.obligations.specs.Sets.{size}
 use Rattle.obligations.specs.State.{nothing, total, State}
-use Rattle.obligations.specs.Sequence.{Binding, at, run}
+use Rattle.obligations.specs.Sequence.{at, run}
+use Rattle.obligations.specs.declared.sequence.Binding.{Binding}
 use Rattle.obligations.proofs.SetLaws.{lt_or_le}
 use Rattle.obligations.proofs.MemberLaws.{size_le, size_none}
 use Rattle.obligations.proofs.StateLaws.{after_state, nothing_state, nothing-zero}

@@ -12,7 +12,8 @@ use lib.ListN.{length}
 use Rattle.obligations.specs.Limits.{positions}
 use Rattle.obligations.specs.State.{nothing, all_zero}
 use Rattle.obligations.specs.Trace.{shaped}
-use Rattle.obligations.specs.Sequence.{Binding, bindings, ψ, NothingLeft, possible_at, first_impossible}
+use Rattle.obligations.specs.Sequence.{bindings, ψ, NothingLeft, possible_at, first_impossible}
+use Rattle.obligations.specs.declared.sequence.Binding.{Binding}
 use Rattle.obligations.proofs.BoolLaws.{and_left, and_right, and_both, false-not-true}
 use Rattle.obligations.proofs.SetLaws.{lt_or_le}
 use Rattle.obligations.proofs.TraceLaws.{shaped_facts, activities_below, shaped_ext}
@@ -23,7 +24,7 @@ use Rattle.net.specs.Chains.{unless, none_at}
 use Rattle.net.specs.Orderly.{orderly}
 use Rattle.net.specs.Traces.{activity_in, trace_within, no_activity_in}
 use Rattle.net.specs.declared.Net.{Net}
-use Rattle.net.specs.declared.Side.TheVariants.{Input, Output}
+use Rattle.net.specs.declared.sides.Side.TheVariants.{Input, Output}
 use Rattle.net.proofs.SentenceLaws.{Told, told_end, whole_link, chain_listed}
 use Rattle.net.proofs.CommonLaws.{orderly_link, failing_link, activities_link, shape_link}
 use Rattle.walks.proofs.CheckLaws.{passing_link}

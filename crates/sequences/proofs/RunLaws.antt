@@ -1,174 +1,143 @@
 -- The loop that runs a sequence: what holds after i positions, one position more, and its three ways out. The state is ψ of
 -- the positions passed, and the total is what the last step reported of it. Assumes nothing.
-use Prim.Native.Nat.{ℕ, suc, ◌+◌, ◌*◌, ◌≤◌, ◌<◌, max}
+use Prim.Native.Nat.{ℕ, suc, ◌+◌, ◌≤◌, ◌<◌, max}
 use mathlib.Core.Path.{◌≡◌, refl, sym, ap, subst, ◌∙◌}
 use mathlib.Core.Bool.{Bool, true, false, cond}
-use mathlib.Core.List.{List}
+use mathlib.Core.List.{List, [], ◌∷◌}
 use mathlib.Core.Logic.{⊎_elim}
 use native.Mathlib.Numerals.{add-one}
 use native.Mathlib.Omega.{arith}
-use borrow.Author.Tests.{eq-eqb, ne_eqb}
+use borrow.Author.Tests.{ne_eqb}
 use lib.Dec.{eqb}
-use lib.ListN.{length, get_or, take, drop, length-take}
-use lib.Seq.{take_all, drop-cons}
-use lib.ListN.{drop_of_length-le}
-use Rattle.obligations.specs.State.{nothing, possible, after, all_zero, total, State, most_due, step_says, step_gives}
-use Rattle.obligations.specs.Sequence.{Binding, bindings, at, ψ, possible_at, first_impossible}
-use Rattle.obligations.specs.declared.state.Stepped.TheVariants as step
+use lib.ListN.{length, take, drop, length-take}
+use lib.Seq.{take_all}
+use Rattle.std.proofs.Common.{Some, None}
+use Rattle.obligations.specs.Limits.{positions}
+use Rattle.obligations.specs.State.{nothing, possible, all_zero, total, State, most_due, step_says, step_gives}
+use Rattle.obligations.specs.Sequence.{at, ψ, possible_at, first_impossible}
+use Rattle.obligations.specs.declared.sequence.Binding.{Binding}
 use Rattle.obligations.proofs.StateLaws.{nothing-zero}
 use Rattle.obligations.proofs.TotalLaws.{total-zero, zero-total}
 use Rattle.obligations.proofs.StepLaws.{gives_possible, total_said, impossible_said}
+use Rattle.obligations.proofs.ListLaws.{drop_head, drop_end}
 use Rattle.obligations.proofs.PositionLaws.{AllPass}
 use Rattle.obligations.proofs.TraceLaws.{pass_more}
 use Rattle.obligations.proofs.SequenceLaws.{fired, run_nil, ψ-next, ψ_in_bytes, possible_test, pass_impossible, fails_impossible}
-use Rattle.obligations.proofs.BoolLaws.{true_or_false}
-use Rattle.sequences.proofs.WordLaws.{positions_many, activity_here, input_here, output_here}
-use Rattle.sequences.specs.Run.{largest_total, ran}
-use Rattle.sequences.specs.Inner.{WithinLimits}
-use Rattle.sequences.specs.declared.Ran.TheVariants.{Impossible, LeftOver, Settled}
+use Rattle.obligations.proofs.BoolLaws.{true_or_false, false-not-true}
+use Rattle.net.specs.Refusals.{Says, accepted, refused, not_possible, left_over}
+use Rattle.net.specs.Chains.{unless, none_at}
+use Rattle.sequences.specs.Run.{largest_total}
+use Rattle.sequences.specs.Judge.{run_says}
 
--- ---- the three answers
+-- ---- what is said
 
-ran_impossible : (s : List Binding) (i : ℕ) → first_impossible s ≡ suc i → ran s ≡ Impossible (i + 1)
-unfolding ran
-ran_impossible s i e = rw (ne_eqb (first_impossible s) 0 (λ z. omega arith)) (ap Impossible (e ∙ sym (add-one i)))
+-- the links of refusals 10 and 11 in a chain that goes on behind them
+abbrev pub ran : List Binding → Says → Says
+ran s rest = none_at (first_impossible s) not_possible (unless (all_zero (ψ s)) left_over rest)
 
-ran_settled : (s : List Binding) (k : ℕ) → first_impossible s ≡ 0 → all_zero (ψ s) ≡ true → largest_total nothing s ≡ k → ran s ≡ Settled k
-unfolding ran
-ran_settled s k e z l = rw (eq-eqb (first_impossible s) 0 e, z) (ap Settled l)
-
-ran_left : (s : List Binding) → first_impossible s ≡ 0 → all_zero (ψ s) ≡ false → ran s ≡ LeftOver
-unfolding ran
-ran_left s e z = rw (eq-eqb (first_impossible s) 0 e, z)
-
--- what each answer shows
-module _ (s : List Binding) where
-  pub impossible_shown : (k : ℕ) → ran s ≡ Impossible k → (eqb (first_impossible s) 0 ≡ false) × (first_impossible s ≡ k)
-  unfolding ran
-  impossible_shown k e = go (eqb (first_impossible s) 0) (all_zero (ψ s)) (largest_total nothing s) (first_impossible s) e
+module _ (s : List Binding) (rest : Says) where
+  -- where a run gives a peak, both pass
+  pub ran_accepted : (peak : ℕ) → accepted peak ≡ run_says s → ran s rest ≡ rest
+  unfolding run_says
+  ran_accepted peak e = go (eqb (first_impossible s) 0) (all_zero (ψ s)) (first_impossible s) (largest_total nothing s) e
     where
-      go : (t u : Bool) (l f : ℕ) → cond t (cond u (Settled l) LeftOver) (Impossible f) ≡ Impossible k → (t ≡ false) × (f ≡ k)
-      go true true l f q = absurd (let z : ◌≡◌ {A = ℕ} 0 1 = cc in omega arith)
-      go true false l f q = absurd (let z : ◌≡◌ {A = ℕ} 0 1 = cc in omega arith)
-      go false u l f q = (refl, cc)
+      go : (t u : Bool) (f k : ℕ) → accepted peak ≡ cond t (cond u (accepted k) (refused 11 0)) (refused 10 f) → cond t (cond u rest (refused 11 0)) (refused 10 f) ≡ rest
+      go true true f k q = refl
+      go true false f k q = absurd (false-not-true (ap (λ (s : Says). s.ok) q) refl)
+      go false u f k q = absurd (false-not-true (ap (λ (s : Says). s.ok) q) refl)
 
-  pub left_shown : ran s ≡ LeftOver → (eqb (first_impossible s) 0 ≡ true) × (all_zero (ψ s) ≡ false)
-  unfolding ran
-  left_shown e = go (eqb (first_impossible s) 0) (all_zero (ψ s)) (largest_total nothing s) (first_impossible s) e
+  -- and where it refuses, so does the chain
+  pub ran_refused : (n p : ℕ) → refused n p ≡ run_says s → refused n p ≡ ran s rest
+  unfolding run_says
+  ran_refused n p e = go (eqb (first_impossible s) 0) (all_zero (ψ s)) (first_impossible s) (largest_total nothing s) e
     where
-      go : (t u : Bool) (l f : ℕ) → cond t (cond u (Settled l) LeftOver) (Impossible f) ≡ LeftOver → (t ≡ true) × (u ≡ false)
-      go true true l f q = absurd (let z : ◌≡◌ {A = ℕ} 0 1 = cc in omega arith)
-      go true false l f q = (refl, refl)
-      go false u l f q = absurd (let z : ◌≡◌ {A = ℕ} 0 1 = cc in omega arith)
-
-  pub settled_shown : (k : ℕ) → ran s ≡ Settled k → (eqb (first_impossible s) 0 ≡ true) × (all_zero (ψ s) ≡ true) × (largest_total nothing s ≡ k)
-  unfolding ran
-  settled_shown k e = go (eqb (first_impossible s) 0) (all_zero (ψ s)) (largest_total nothing s) (first_impossible s) e
-    where
-      go : (t u : Bool) (l f : ℕ) → cond t (cond u (Settled l) LeftOver) (Impossible f) ≡ Settled k → (t ≡ true) × (u ≡ true) × (l ≡ k)
-      go true true l f q = (refl, refl, cc)
-      go true false l f q = absurd (let z : ◌≡◌ {A = ℕ} 0 1 = cc in omega arith)
-      go false u l f q = absurd (let z : ◌≡◌ {A = ℕ} 0 1 = cc in omega arith)
-
--- ---- the largest total, one position on
-
-largest_step : (d : List ℕ) (s : List Binding) (i : ℕ) → i < length s
-    → largest_total d (drop i s) ≡ max (total (fired d (at s i))) (largest_total (fired d (at s i)) (drop (i + 1) s))
-unfolding largest_total
-largest_step d s i h = rw (add-one i, drop-cons s i (record { activity = 0; input = 0; output = 0 }) h)
+      go : (t u : Bool) (f k : ℕ) → refused n p ≡ cond t (cond u (accepted k) (refused 11 0)) (refused 10 f) → refused n p ≡ cond t (cond u rest (refused 11 0)) (refused 10 f)
+      go true true f k q = absurd (false-not-true refl (ap (λ (s : Says). s.ok) q))
+      go true false f k q = q
+      go false u f k q = q
 
 -- ---- the loop
 
--- after i of the n positions
-pub record Running (ws : List ℕ) (n i place : ℕ) (due : List ℕ) (pending peak : ℕ) : Type 0 where
-  pub inside : i ≤ n
-  pub placed : place ≡ 3 * i
-  pub state : due ≡ ψ (take i (bindings ws))
+-- after i positions, where `rest` is left of them
+pub record Running (s : List Binding) (i : ℕ) (rest : List Binding) (due : List ℕ) (pending peak : ℕ) : Type 0 where
+  pub left : drop i s ≡ rest
+  pub state : due ≡ ψ (take i s)
   pub counted : pending ≡ total due
-  pub each_possible : AllPass i (possible_at (bindings ws))
-  pub largest : max peak (largest_total due (drop i (bindings ws))) ≡ largest_total nothing (bindings ws)
+  pub each_possible : AllPass i (possible_at s)
+  pub largest : max peak (largest_total due rest) ≡ largest_total nothing s
 
-module _ (ws : List ℕ) (n : ℕ) (p : WithinLimits ws n) where
-  many : length (bindings ws) ≡ n
-  many = positions_many ws n p
+pub running_start : (s : List Binding) (i : ℕ) (rest : List Binding) (due : List ℕ) → i ≡ 0 → rest ≡ s → due ≡ nothing → Running s i rest due 0 0
+running_start s i rest due e f g = record {
+  left = rw (e, f);
+  state = rw (e, g) (sym (run_nil nothing));
+  counted = rw g (sym (zero-total nothing nothing-zero));
+  each_possible = λ j l. absurd (omega arith);
+  largest = rw (f, g) (omega arith);
+}
 
-  pub running_start : Running ws n 0 0 nothing 0 0
-  running_start = record {
-    inside = omega arith;
-    placed = refl;
-    state = sym (run_nil nothing);
-    counted = sym (zero-total nothing nothing-zero);
-    each_possible = λ i l. absurd (omega arith);
-    largest = omega arith;
-  }
+module _ (s : List Binding) (i : ℕ) (rest : List Binding) (due : List ℕ) (pending peak : ℕ) (r : Running s i rest due pending peak) where
+  pub running_state : length s ≤ positions → State most_due due
+  running_state few = subst (State most_due) (sym r.state) (ψ_in_bytes (take i s) (omega (arith, length-take i s)))
 
-  module _ (i place : ℕ) (due : List ℕ) (pending peak : ℕ) (r : Running ws n i place due pending peak) where
-    pub running_state : State most_due due
-    running_state = subst (State most_due) (sym r.state) (ψ_in_bytes (take i (bindings ws)) (omega (arith, length-take i (bindings ws), many, r.inside, p.few)))
+  -- at the end
+  module _ (e : rest ≡ []) where
+    passed : length s ≤ i
+    passed = drop_end s i (r.left ∙ e)
 
-    -- at the end
-    module _ (h : n ≤ i) where
-      all_passed : first_impossible (bindings ws) ≡ 0
-      all_passed = pass_impossible (bindings ws) (λ j l. r.each_possible j (omega (arith, many)))
+    all_passed : first_impossible s ≡ 0
+    all_passed = pass_impossible s (λ j l. r.each_possible j (omega (arith, passed)))
 
-      last_state : due ≡ ψ (bindings ws)
-      last_state = r.state ∙ ap ψ (take_all i (bindings ws) (omega (arith, many)))
+    last_state : due ≡ ψ s
+    last_state = r.state ∙ ap ψ (take_all i s passed)
 
-      pub running_settled : pending ≡ 0 → ran (bindings ws) ≡ Settled peak
-      unfolding largest_total
-      running_settled z =
-          ran_settled (bindings ws) peak all_passed (ap all_zero (sym last_state) ∙ total-zero due (sym r.counted ∙ z))
-          (sym r.largest ∙ ap (λ (t : List Binding). max peak (largest_total due t)) (drop_of_length-le (bindings ws) {i = i} (omega (arith, many))) ∙ omega arith)
+    pub running_settled : pending ≡ 0 → accepted peak ≡ run_says s
+    unfolding run_says largest_total
+    running_settled z =
+        let zero : all_zero (ψ s) ≡ true = ap all_zero (sym last_state) ∙ total-zero due (sym r.counted ∙ z) in
+        let l : peak ≡ largest_total nothing s = omega (arith, r.largest, ap (largest_total due) e) in
+        rw (all_passed, zero) (ap accepted l)
 
-      pub running_left : (pending ≡ 0 → ⊥) → ran (bindings ws) ≡ LeftOver
-      running_left z =
-          ran_left (bindings ws) all_passed
-          (⊎_elim (λ t. absurd (z (r.counted ∙ zero-total due (ap all_zero last_state ∙ t)))) (λ f. f) (true_or_false (all_zero (ψ (bindings ws)))))
+    pub running_left : (pending ≡ 0 → ⊥) → refused 11 0 ≡ run_says s
+    unfolding run_says
+    running_left z =
+        let left : all_zero (ψ s) ≡ false =
+        ⊎_elim (λ t. absurd (z (r.counted ∙ zero-total due (ap all_zero last_state ∙ t)))) (λ f. f) (true_or_false (all_zero (ψ s))) in
+        rw (all_passed, left)
 
-    module _ (h : i < n) where
-      activity : get_or ws place 0 ≡ (at (bindings ws) i).activity
-      activity = activity_here ws n p i place h r.placed
+  -- at one position more
+  module _ (b : Binding) (rest' : List Binding) (e : rest ≡ b ∷ rest') where
+    inside : i < length s
+    inside = (drop_head s i b rest' b (r.left ∙ e)).0
 
-      input : get_or ws (place + 1) 0 ≡ (at (bindings ws) i).input
-      input = input_here ws n p i place h r.placed
+    here : at s i ≡ b
+    here = (drop_head s i b rest' (record { activity = 0; input = 0; output = 0 }) (r.left ∙ e)).1
 
-      output : get_or ws (place + 2) 0 ≡ (at (bindings ws) i).output
-      output = output_here ws n p i place h r.placed
+    pub running_activity : ((j : ℕ) → j < length s → (at s j).activity < 32) → b.activity < 32
+    running_activity low = subst (λ (c : Binding). c.activity < 32) here (low i inside)
 
-      possible_here : possible_at (bindings ws) i ≡ possible due (get_or ws place 0) (get_or ws (place + 1) 0)
-      possible_here = possible_test (bindings ws) i ∙ rw (r.state, activity, input)
+    possible_here : possible_at s i ≡ possible due b.activity b.input
+    possible_here = possible_test s i ∙ rw (r.state, here)
 
-      pub running_impossible : step_says due (get_or ws place 0) (get_or ws (place + 1) 0) (get_or ws (place + 2) 0) ≡ step.Impossible → ran (bindings ws) ≡ Impossible (i + 1)
-      running_impossible e =
-          let f = impossible_said due (get_or ws place 0) (get_or ws (place + 1) 0) (get_or ws (place + 2) 0) e in
-          ran_impossible (bindings ws) i
-          (fails_impossible (bindings ws) i (record { inside = omega (arith, many); before = r.each_possible; fails = possible_here ∙ f }))
+    pub running_impossible : step_says due b.activity b.input b.output ≡ None → refused 10 (i + 1) ≡ run_says s
+    unfolding run_says
+    running_impossible n =
+        let f = fails_impossible s i (record { inside = inside; before = r.each_possible; fails = possible_here ∙ impossible_said due b.activity b.input b.output n }) in
+        rw (f, ne_eqb (suc i) 0 (λ z. omega arith)) (ap (refused 10) (add-one i))
 
-      -- one position more
-      pub running_next : (due' : List ℕ) (pending' peak' : ℕ)
-          → step_says due (get_or ws place 0) (get_or ws (place + 1) 0) (get_or ws (place + 2) 0) ≡ step.Total pending'
-          → due' ≡ step_gives due (get_or ws place 0) (get_or ws (place + 1) 0) (get_or ws (place + 2) 0)
-          → peak' ≡ max peak pending'
-          → Running ws n (i + 1) (place + 3) due' pending' peak'
-      running_next due' pending' peak' e g m =
-          let a = get_or ws place 0 in
-          let x = get_or ws (place + 1) 0 in
-          let y = get_or ws (place + 2) 0 in
-          let said = total_said due a x y pending' e in
-          let t = said.0 in
-          let d : due' ≡ after due a x y = g ∙ gives_possible due a x y t in
-          let next : due' ≡ fired (ψ (take i (bindings ws))) (at (bindings ws) i) = d ∙ same_fired in
-          let here : due' ≡ fired due (at (bindings ws) i) = next ∙ ap (λ (l : List ℕ). fired l (at (bindings ws) i)) (sym r.state) in
-          let count : pending' ≡ total due' = sym said.1 ∙ ap total (sym d) in
-          record {
-            inside = omega arith;
-            placed = omega (arith, r.placed);
-            state = next ∙ sym (ψ-next (bindings ws) i (omega (arith, many)));
-            counted = count;
-            each_possible = pass_more (possible_at (bindings ws)) i r.each_possible (possible_here ∙ t);
-            largest =
-                omega (arith, r.largest, largest_step due (bindings ws) i (omega (arith, many)), ap (λ (l : List ℕ). total l) here, ap (λ (l : List ℕ). largest_total l (drop (i + 1) (bindings ws))) here);
-          }
-        where
-          same_fired : after due (get_or ws place 0) (get_or ws (place + 1) 0) (get_or ws (place + 2) 0) ≡ fired (ψ (take i (bindings ws))) (at (bindings ws) i)
-          same_fired = rw (r.state, activity, input, output)
+    pub running_next : (due' : List ℕ) (pending' : ℕ)
+        → step_says due b.activity b.input b.output ≡ Some pending'
+        → due' ≡ step_gives due b.activity b.input b.output
+        → Running s (i + 1) rest' due' pending' (max peak pending')
+    unfolding largest_total
+    running_next due' pending' t g =
+        let said = total_said due b.activity b.input b.output pending' t in
+        let d : due' ≡ fired due b = g ∙ gives_possible due b.activity b.input b.output said.0 in
+        let same : fired due b ≡ fired (ψ (take i s)) (at s i) = rw (r.state, here) in
+        let count : pending' ≡ total due' = sym said.1 ∙ ap total (sym d) in
+        record {
+          left = (drop_head s i b rest' b (r.left ∙ e)).2;
+          state = d ∙ same ∙ sym (ψ-next s i inside);
+          counted = count;
+          each_possible = pass_more (possible_at s) i r.each_possible (possible_here ∙ said.0);
+          largest = omega (arith, r.largest, ap (largest_total due) e, ap (λ (l : List ℕ). largest_total l rest') d, said.1);
+        }

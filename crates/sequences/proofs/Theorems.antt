@@ -16,7 +16,7 @@ use Rattle.net.specs.Common.{not_orderly, not_activities, not_shaped}
 use Rattle.net.specs.Sides.{net_size}
 use Rattle.net.specs.Orderly.{orderly}
 use Rattle.net.specs.declared.Net.{Net}
-use Rattle.net.specs.declared.Side.TheVariants.{Input, Output}
+use Rattle.net.specs.declared.sides.Side.TheVariants.{Input, Output}
 use Rattle.net.proofs.OrderlyLaws.{orderly_facts, facts_orderly}
 use Rattle.net.proofs.SentenceLaws.{given_exactly, told-accepted, told-value, told-ok}
 use Rattle.net.proofs.UncountedLaws.{passes_over}

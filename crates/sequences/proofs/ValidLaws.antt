@@ -9,7 +9,8 @@ use native.Mathlib.Decide.{ℕ_discrete as dec_eq}
 use lib.ListN.{length}
 use Rattle.obligations.specs.State.{all_zero}
 use Rattle.obligations.specs.Trace.{first_no_activity, shaped, Shaped}
-use Rattle.obligations.specs.Sequence.{Binding, bindings, at, ψ, first_impossible}
+use Rattle.obligations.specs.Sequence.{bindings, at, ψ, first_impossible}
+use Rattle.obligations.specs.declared.sequence.Binding.{Binding}
 use Rattle.obligations.proofs.BoolLaws.{and_left, and_right, and_both, false-not-true}
 use Rattle.obligations.proofs.PositionLaws.{pass_first, first_pass}
 use Rattle.obligations.proofs.TraceLaws.{shaped_facts, activities_below}
@@ -17,8 +18,8 @@ use Rattle.net.specs.Lists.{listed}
 use Rattle.net.specs.Sides.{OnSide, sets_on, empty_at}
 use Rattle.net.specs.Orderly.{orderly, Orderly}
 use Rattle.net.specs.declared.Net.{Net}
-use Rattle.net.specs.declared.Side.{Side}
-use Rattle.net.specs.declared.Side.TheVariants.{Input, Output}
+use Rattle.net.specs.declared.sides.Side.{Side}
+use Rattle.net.specs.declared.sides.Side.TheVariants.{Input, Output}
 use Rattle.net.proofs.ListLaws.{listed_one}
 use Rattle.net.proofs.OrderlyLaws.{orderly_facts, facts_orderly}
 use Rattle.net.proofs.ChainLaws.{unless-passes, none_passes}

@@ -3,7 +3,8 @@
 use Rattle.std.specs.Prelude.{ℕ, ◌+◌, ◌<◌, ◌≤◌, ◌≡◌, Bool, true, cond, ◌&&◌, List, [], ◌∷◌, ◌↔◌, ◌⊎◌, eqb, ltb, length, get_or, set}
 use Rattle.obligations.specs.Limits.{activities}
 use Rattle.obligations.specs.Tests.{indicator}
-use Rattle.obligations.specs.Sequence.{Binding, at}
+use Rattle.obligations.specs.Sequence.{at}
+use Rattle.obligations.specs.declared.sequence.Binding.{Binding}
 use Rattle.net.specs.Limits.{sets, most_uses}
 use Rattle.net.specs.Lists.{AtMost}
 use Rattle.net.specs.Refusals.{full_side, count_too_high}
@@ -12,8 +13,8 @@ use Rattle.net.specs.Sides.{masks_of, lengths_of, counts_of, empty_at, count_of,
 use Rattle.net.specs.Orderly.{Orderly}
 use Rattle.net.specs.Put.{side_says, put_masks, put_lengths, put_counts, with_sides}
 use Rattle.net.specs.declared.Net.{Net}
-use Rattle.net.specs.declared.Side.{Side}
-use Rattle.net.specs.declared.Side.TheVariants.{Input, Output}
+use Rattle.net.specs.declared.sides.Side.{Side}
+use Rattle.net.specs.declared.sides.Side.TheVariants.{Input, Output}
 
 -- ---- what a net gains, and whether it fits
 

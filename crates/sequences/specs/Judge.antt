@@ -1,30 +1,29 @@
 -- Judge (01, "Net check and judge"): refusals 2, 3, 4, 6, 19 (02, (iv)), 7, 8, 10, 11 in this order; else the peak (02, (i)).
-use Rattle.std.specs.Prelude.{ℕ, Bool, ◌&&◌, List, [], ◌∷◌, length}
+use Rattle.std.specs.Prelude.{ℕ, Bool, ◌&&◌, List, [], ◌∷◌, Result, length}
 use Rattle.obligations.specs.Tests.{first_failing}
 use Rattle.obligations.specs.Trace.{shaped}
 use Rattle.obligations.specs.State.{nothing, all_zero}
-use Rattle.obligations.specs.Sequence.{Binding, bindings, at, ψ, first_impossible}
+use Rattle.obligations.specs.Sequence.{bindings, at, ψ, first_impossible}
+use Rattle.obligations.specs.declared.sequence.Binding.{Binding}
 use Rattle.net.specs.Lists.{listed}
-use Rattle.net.specs.Refusals.{Says, accepted, refused, disorderly, wrong_ends, missing_set, not_possible, left_over}
+use Rattle.net.specs.Refusals.{Says, means, accepted, disorderly, wrong_ends, missing_set, not_possible, left_over}
 use Rattle.net.specs.Sentences.{Sentence, first}
 use Rattle.net.specs.Chains.{unless, none_at}
 use Rattle.net.specs.Sides.{sets_on, OnSide}
 use Rattle.net.specs.Orderly.{orderly}
 use Rattle.net.specs.Common.{not_orderly, not_activities, not_shaped}
 use Rattle.net.specs.declared.Net.{Net}
-use Rattle.net.specs.declared.Side.{Side}
-use Rattle.net.specs.declared.Side.TheVariants.{Input, Output}
+use Rattle.net.specs.declared.sides.Side.{Side}
+use Rattle.net.specs.declared.sides.Side.TheVariants.{Input, Output}
 use Rattle.walks.specs.Check.{activity_on_no_walk, unanswered_name, passing}
 use Rattle.sequences.specs.Limits.{activity_of, not_sequence, within_limits}
 use Rattle.sequences.specs.Run.{not_all_possible, obligations_left, largest_total}
 use Rattle.sequences.specs.Gain.{set_for}
-use Rattle.sequences.specs.declared.JudgeAnswer.{JudgeAnswer}
-use Rattle.sequences.specs.declared.JudgeAnswer.TheVariants.{Judged, Refused}
+use Rattle.net.specs.declared.refusal.Refused.{Refused}
 
 -- what each answer means: an accepted one's value is the peak
-abbrev pub judge_means : JudgeAnswer → Says
-judge_means (Judged peak) = accepted peak
-judge_means (Refused n p) = refused n p
+abbrev pub judge_means : Result ℕ Refused → Says
+judge_means answer = means (λ peak. peak) answer
 
 -- ---- the refusals
 

@@ -1,11 +1,12 @@
 -- Learn (01, "Learning and containment"): refusals 2, 3, 4, 7, 9, 10, 11, 12 and 21 (02, (viii)) in this order.
-use Rattle.std.specs.Prelude.{ℕ, ◌+◌, ◌-◌, ◌≡◌, Bool, cond, ◌&&◌, List, [], ◌∷◌, ◌↔◌, eqb, length}
+use Rattle.std.specs.Prelude.{ℕ, ◌+◌, ◌-◌, ◌≡◌, Bool, cond, ◌&&◌, List, [], ◌∷◌, ◌↔◌, Result, eqb, length}
 use Rattle.std.specs.Bool.{beq}
 use Rattle.obligations.specs.Tests.{first_failing}
 use Rattle.obligations.specs.Trace.{shaped}
 use Rattle.obligations.specs.State.{all_zero}
-use Rattle.obligations.specs.Sequence.{Binding, bindings, at, ψ, first_impossible}
-use Rattle.net.specs.Refusals.{Says, accepted, refused, disorderly, wrong_ends, wrongly_empty, not_possible, left_over, full_side, count_too_high}
+use Rattle.obligations.specs.Sequence.{bindings, at, ψ, first_impossible}
+use Rattle.obligations.specs.declared.sequence.Binding.{Binding}
+use Rattle.net.specs.Refusals.{Says, means, accepted, disorderly, wrong_ends, wrongly_empty, not_possible, left_over, full_side, count_too_high}
 use Rattle.net.specs.Sentences.{Sentence, first}
 use Rattle.net.specs.Chains.{unless, none_at}
 use Rattle.net.specs.Sides.{net_size}
@@ -15,14 +16,12 @@ use Rattle.net.specs.declared.Net.{Net}
 use Rattle.sequences.specs.Limits.{activity_of, not_sequence, within_limits}
 use Rattle.sequences.specs.Run.{not_all_possible, obligations_left}
 use Rattle.sequences.specs.Gain.{not_fitting, not_countable, gained, fits, countable}
-use Rattle.sequences.specs.declared.LearnAnswer.{LearnAnswer}
-use Rattle.sequences.specs.declared.LearnAnswer.TheVariants.{Learned, Refused}
-use Rattle.sequences.specs.declared.LearnResult.{LearnResult}
+use Rattle.net.specs.declared.refusal.Refused.{Refused}
+use Rattle.net.specs.declared.Returned.{Returned}
 
 -- what each answer of learn and follow means: an accepted one's value is the number of new sets
-abbrev pub learn_means : LearnAnswer → Says
-learn_means (Learned new) = accepted new
-learn_means (Refused n p) = refused n p
+abbrev pub learn_means : Result ℕ Refused → Says
+learn_means answer = means (λ new. new) answer
 
 -- ---- the refusals
 
@@ -81,6 +80,6 @@ learn_says net ws = unless (orderly net) disorderly (within_limits ws (learn_pos
 unfoldable pub learn_gives : Net → List ℕ → Net
 learn_gives net ws = cond (learn_says net ws).ok (gained net (bindings ws)) net
 
-pub record LearnDone (net : Net) (ws : List ℕ) (r : LearnResult) : Type 0 where
+pub record LearnDone (net : Net) (ws : List ℕ) (r : Returned ℕ) : Type 0 where
   pub says : learn_means r.answer ≡ learn_says net ws
   pub gives : r.net ≡ learn_gives net ws

@@ -2,7 +2,8 @@
 use Rattle.std.specs.Prelude.{ℕ, ◌*◌, ◌%◌, ◌<◌, ◌≡◌, Bool, ◌&&◌, List, ◌⊎◌, eqb, leb, length}
 use Rattle.obligations.specs.Limits.{positions}
 use Rattle.obligations.specs.Trace.{first_no_activity}
-use Rattle.obligations.specs.Sequence.{Binding, bindings, at}
+use Rattle.obligations.specs.Sequence.{bindings, at}
+use Rattle.obligations.specs.declared.sequence.Binding.{Binding}
 use Rattle.net.specs.Refusals.{Says, outside_limits, no_activity}
 use Rattle.net.specs.Sentences.{Sentence, whole}
 use Rattle.net.specs.Chains.{unless, none_at}

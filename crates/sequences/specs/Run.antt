@@ -1,13 +1,12 @@
 -- A sequence run from the state in which nothing is due: refusals 10 and 11 (01, "Net check and judge"), and the peak
 -- (02, (i)).
-use Rattle.std.specs.Prelude.{ℕ, ◌+◌, max, ◌≤◌, ◌<◌, ◌≡◌, cond, List, [], ◌∷◌, eqb, length, take}
+use Rattle.std.specs.Prelude.{ℕ, ◌+◌, max, ◌≤◌, ◌<◌, ◌≡◌, List, [], ◌∷◌, length, take}
 use Rattle.obligations.specs.Sets.{size}
-use Rattle.obligations.specs.State.{nothing, after, all_zero, total}
-use Rattle.obligations.specs.Sequence.{Binding, at, ψ, Possible, NothingLeft, first_impossible}
+use Rattle.obligations.specs.State.{after, total}
+use Rattle.obligations.specs.Sequence.{at, ψ, Possible, NothingLeft}
+use Rattle.obligations.specs.declared.sequence.Binding.{Binding}
 use Rattle.net.specs.Refusals.{not_possible, left_over}
 use Rattle.net.specs.Sentences.{Sentence, whole, first}
-use Rattle.sequences.specs.declared.Ran.{Ran}
-use Rattle.sequences.specs.declared.Ran.TheVariants as ran-as
 
 -- ---- the refusals; i is the number of positions before the one spoken of
 
@@ -48,7 +47,3 @@ largest_total d (b ∷ s) =
 unfoldable pub output_sizes : List Binding → ℕ
 output_sizes [] = 0
 output_sizes (b ∷ s) = size b.output + output_sizes s
-
--- the first binding that isn't possible, by its position; else obligations left at the end; else the largest total
-unfoldable pub ran : List Binding → Ran
-ran s = cond (eqb (first_impossible s) 0) (cond (all_zero (ψ s)) (ran-as.Settled (largest_total nothing s)) ran-as.LeftOver) (ran-as.Impossible (first_impossible s))

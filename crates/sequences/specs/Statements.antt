@@ -4,43 +4,42 @@
 use Rattle.std.specs.Prelude.{ℕ, ◌+◌, ◌*◌, ◌≤◌, ◌<◌, ◌≡◌, true, List, [], ◌∷◌, ◌↔◌, length, get_or}
 use Rattle.obligations.specs.Limits.{activities, masks, positions}
 use Rattle.obligations.specs.State.{nothing, total}
-use Rattle.obligations.specs.Sequence.{Binding, bindings, words, WellFormed}
-use Rattle.net.specs.Refusals.{name_unanswered}
+use Rattle.obligations.specs.Sequence.{bindings, words, WellFormed}
+use Rattle.obligations.specs.declared.sequence.Binding.{Binding}
+use Rattle.net.specs.Refusals.{accepted, refused, name_unanswered}
 use Rattle.net.specs.Sentences.{Lowest, NoneHolds, AsListed}
 use Rattle.net.specs.Sides.{SameButCounts, counts_on, net_size}
 use Rattle.net.specs.Orderly.{Orderly}
 use Rattle.net.specs.Common.{not_orderly, not_activities}
 use Rattle.net.specs.Valid.{Valid}
 use Rattle.net.specs.declared.Net.{Net}
-use Rattle.net.specs.declared.Side.{Side}
+use Rattle.net.specs.declared.sides.Side.{Side}
 use Rattle.walks.specs.Walk.{Passes}
 use Rattle.walks.specs.Check.{activity_on_no_walk, Unanswered}
 use Rattle.sequences.specs.Limits.{activity_of, not_sequence}
 use Rattle.sequences.specs.Run.{total_after, Peak, largest_total, output_sizes}
 use Rattle.sequences.specs.Gain.{occurrences_of, Fits, Countable, Gains, fits, countable}
-use Rattle.sequences.specs.Learn.{learn_means, learn_refusals, learn_says, learn_gives}
-use Rattle.sequences.specs.Judge.{judge_means, judge_refusals, judge_says}
+use Rattle.sequences.specs.Learn.{learn_refusals, learn_says, learn_gives}
+use Rattle.sequences.specs.Judge.{judge_refusals, judge_says}
 use Rattle.sequences.specs.Follow.{followed, follow_refusals, follow_says, follow_gives}
-use Rattle.sequences.specs.declared.LearnAnswer.TheVariants.{Learned, Refused}
-use Rattle.sequences.specs.declared.JudgeAnswer.TheVariants as judge
 
 -- ---- the refusals: each call is refused exactly as its sentences are listed, and else accepted
 
 abbrev pub LearnListed : Type 0
-LearnListed = (net : Net) (ws : List ℕ) → AsListed (λ n p. learn_means (Refused n p)) (learn_refusals net ws) (learn_says net ws)
+LearnListed = (net : Net) (ws : List ℕ) → AsListed refused (learn_refusals net ws) (learn_says net ws)
 
 abbrev pub FollowListed : Type 0
-FollowListed = (net : Net) (trace : List ℕ) → AsListed (λ n p. learn_means (Refused n p)) (follow_refusals net trace) (follow_says net trace)
+FollowListed = (net : Net) (trace : List ℕ) → AsListed refused (follow_refusals net trace) (follow_says net trace)
 
 abbrev pub JudgeListed : Type 0
-JudgeListed = (net : Net) (ws : List ℕ) → AsListed (λ n p. judge_means (judge.Refused n p)) (judge_refusals net ws) (judge_says net ws)
+JudgeListed = (net : Net) (ws : List ℕ) → AsListed refused (judge_refusals net ws) (judge_says net ws)
 
 -- judge says 19 exactly if none of 2, 3, 4 and 6 holds, with the lowest activity that names one which never names it back; what comes
 -- after it doesn't matter
 abbrev pub JudgeUnanswered : Type 0
 JudgeUnanswered =
     (net : Net) (ws : List ℕ) (a : ℕ) → let s = bindings ws in
-    (judge_says net ws ≡ judge_means (judge.Refused name_unanswered a))
+    (judge_says net ws ≡ refused name_unanswered a)
     ↔ (NoneHolds (not_orderly net ∷ not_sequence ws ∷ not_activities (length s) (activity_of s) ∷ activity_on_no_walk net ∷ []) × Lowest (Unanswered net) a)
 
 -- ---- learn
@@ -64,7 +63,7 @@ NoneHoldsLearnable = (net : Net) (ws : List ℕ) → NoneHolds (learn_refusals n
 abbrev pub LearnAccepts : Type 0
 LearnAccepts =
     (net : Net) (ws : List ℕ) (new : ℕ)
-    → (learn_says net ws ≡ learn_means (Learned new)) ↔ (Learnable net ws × (net_size (learn_gives net ws) ≡ net_size net + new))
+    → (learn_says net ws ≡ accepted new) ↔ (Learnable net ws × (net_size (learn_gives net ws) ≡ net_size net + new))
 
 -- the test that a sequence fits is the paper's, of a sequence that is well-formed
 abbrev pub FitsTestRight : Type 0
@@ -76,23 +75,23 @@ CountableTestRight = (net : Net) (s : List Binding) → Orderly net → WellForm
 
 -- an accepted learn returns the net with exactly the sequence's sets more, and with their uses counted
 abbrev pub LearnHolds : Type 0
-LearnHolds = (net : Net) (ws : List ℕ) (new : ℕ) → learn_says net ws ≡ learn_means (Learned new) → Gains net (bindings ws) (learn_gives net ws)
+LearnHolds = (net : Net) (ws : List ℕ) (new : ℕ) → learn_says net ws ≡ accepted new → Gains net (bindings ws) (learn_gives net ws)
 
 -- the counts on each side of an activity then add up to as many more as the activity has occurrences in the sequence
 abbrev pub LearnAddsUp : Type 0
 LearnAddsUp =
-    (net : Net) (ws : List ℕ) (new : ℕ) → learn_says net ws ≡ learn_means (Learned new)
+    (net : Net) (ws : List ℕ) (new : ℕ) → learn_says net ws ≡ accepted new
     → (side : Side) (a : ℕ) → total (counts_on (learn_gives net ws) side a) ≡ total (counts_on net side a) + occurrences_of (bindings ws) a
 
 -- an accepted sequence is valid in the net that learn returns
 abbrev pub LearnValid : Type 0
-LearnValid = (net : Net) (ws : List ℕ) (new : ℕ) → learn_says net ws ≡ learn_means (Learned new) → Valid (learn_gives net ws) (bindings ws)
+LearnValid = (net : Net) (ws : List ℕ) (new : ℕ) → learn_says net ws ≡ accepted new → Valid (learn_gives net ws) (bindings ws)
 
 -- a refused learn or follow returns the very net given
 abbrev pub RefusedSame : Type 0
 RefusedSame =
     (net : Net) (ws : List ℕ) (n p : ℕ)
-    → (learn_says net ws ≡ learn_means (Refused n p) → learn_gives net ws ≡ net) × (follow_says net ws ≡ learn_means (Refused n p) → follow_gives net ws ≡ net)
+    → (learn_says net ws ≡ refused n p → learn_gives net ws ≡ net) × (follow_says net ws ≡ refused n p → follow_gives net ws ≡ net)
 
 -- following a trace is learning its sequence, whatever the net and the trace are
 pub record FollowIsLearn (net : Net) (trace : List ℕ) : Type 0 where
@@ -117,7 +116,7 @@ NoneHoldsJudgeable = (net : Net) (ws : List ℕ) → NoneHolds (judge_refusals n
 
 -- that is what judge accepts, and the number that it gives is the sequence's peak
 abbrev pub JudgeAccepts : Type 0
-JudgeAccepts = (net : Net) (ws : List ℕ) (peak : ℕ) → (judge_says net ws ≡ judge_means (judge.Judged peak)) ↔ (Judgeable net ws × Peak (bindings ws) peak)
+JudgeAccepts = (net : Net) (ws : List ℕ) (peak : ℕ) → (judge_says net ws ≡ accepted peak) ↔ (Judgeable net ws × Peak (bindings ws) peak)
 
 -- the peak as it is computed is the peak, of a sequence that has positions
 abbrev pub LargestIsPeak : Type 0
@@ -127,12 +126,12 @@ LargestIsPeak = (s : List Binding) (peak : ℕ) → 0 < length s → (largest_to
 -- of all Y
 abbrev pub PeakWithin : Type 0
 PeakWithin =
-    (net : Net) (ws : List ℕ) (peak : ℕ) → judge_says net ws ≡ judge_means (judge.Judged peak)
+    (net : Net) (ws : List ℕ) (peak : ℕ) → judge_says net ws ≡ accepted peak
     → ((i : ℕ) → i < length (bindings ws) → total_after (bindings ws) i ≤ peak) × (peak ≤ output_sizes (bindings ws))
 
 -- and it is below 32 times the limit of positions
 abbrev pub PeakBelow : Type 0
-PeakBelow = (net : Net) (ws : List ℕ) (peak : ℕ) → judge_says net ws ≡ judge_means (judge.Judged peak) → peak < activities * positions
+PeakBelow = (net : Net) (ws : List ℕ) (peak : ℕ) → judge_says net ws ≡ accepted peak → peak < activities * positions
 
 -- judge passes over the counts of orderly records (02, (viii))
 abbrev pub JudgePassesOver : Type 0

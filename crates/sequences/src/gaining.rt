@@ -1,139 +1,92 @@
 // The net gains a sequence's sets and counts their uses, for learn and follow.
 
-ghost use Rattle.std.specs.Prelude.{◌≡◌, true, ◌<◌, length};
+ghost use Rattle.std.specs.Prelude.{◌≡◌, true, ◌<◌, IfOk, length};
 ghost use Rattle.obligations.specs.Limits.{activities};
 ghost use Rattle.obligations.specs.Sequence.{bindings};
 ghost use Rattle.net.specs.Limits.{places};
 ghost use Rattle.net.specs.Inner.{OrderlySides};
 ghost use Rattle.net.specs.Orderly.{orderly};
-ghost use Rattle.sequences.specs.Inner.{WithinLimits, Raised, SetGained, GainDone, RefusedWith};
+ghost use Rattle.sequences.specs.Gain.{raised_at, topped_at, gained};
+ghost use Rattle.sequences.specs.Learn.{learn_means, gain_says};
+ghost use Rattle.sequences.specs.Inner.{WithinLimits, SetGained, GainDone};
 
-use crate::{LearnAnswer, LearnResult};
-use net::putting::{Placed, put_counted};
-use net::{LISTS, MOST_USES, Net, PLACES, refusal};
+use net::putting::put_counted;
+use net::{MOST_USES, Net, PLACES, Refusal, Refused, Returned, Sides};
+use obligations::sequence::bindings;
 
-// What a position's set does to its side.
+// What a position's set does to its side: how many sets it adds, and how many counts are at their top and can't be raised, each
+// 0 or 1.
 #[derive(Clone, Copy)]
-enum Gained {
-    // How many sets it adds, and how many counts are at their top and can't be raised: each 0 or 1.
-    Added { sets: u32, topped: u32 },
-    // The side can't take the set.
-    NoRoom,
+struct Added {
+    sets: u32,
+    topped: u32,
 }
 
-// Puts the n positions' sets on their sides and counts their uses, in place in copies of the net's arrays, so that the net is
-// copied once and not for each position. Where a side would exceed its sets or a count its top the net given is returned.
-pub fn gain(net: Net, words: &[u32], n: usize) -> LearnResult
+// Puts the positions' sets on their sides and counts their uses, in place in a copy of the net, so that the net is copied once and
+// not for each position. Where a side would exceed its sets or a count its top the net given is returned.
+pub fn gain(net: Net, words: &[u32]) -> Returned<u32>
     requires net_value { orderly net ≡ true }
-    requires within_limits { WithinLimits words.now n }
+    requires within_limits { WithinLimits words.now }
     ensures { GainDone net (bindings words.now) result }
 {
-    let start = net.start;
-    let end = net.end;
-    let mut inputs = net.inputs;
-    let mut input_len = net.input_len;
-    let mut input_counts = net.input_counts;
-    let mut outputs = net.outputs;
-    let mut output_len = net.output_len;
-    let mut output_counts = net.output_counts;
+    let mut grown = net;
+    match gain_in(&mut grown, words) {
+        Ok(new) => Returned {
+            answer: Ok(new),
+            net: grown,
+        },
+        Err(refused) => Returned {
+            answer: Err(refused),
+            net,
+        },
+    }
+}
+
+// The same on a net in place, which a refusal leaves with some of the sets.
+fn gain_in(net: &mut Net, words: &[u32]) -> Result<u32, Refused>
+    requires net_value { orderly net.old ≡ true }
+    requires within_limits { WithinLimits words.now }
+    ensures says { learn_means result ≡ gain_says net.old (bindings words.now) }
+    ensures gives { IfOk result (λ new. net.new ≡ gained net.old (bindings words.now)) }
+{
     let mut new: u32 = 0;
     let mut topped: u32 = 0;
-    let mut i: usize = 0;
-    let mut at: usize = 0;
-    while i < n {
-        let a = words[at];
-        let input = gain_set(
-            &mut inputs,
-            &mut input_len,
-            &mut input_counts,
-            start,
-            a,
-            words[at + 1],
-        );
-        let Gained::Added { sets: x, topped: u } = input else {
-            return refuse(net, refusal::FULL_SIDE, 0);
-        };
-        let output = gain_set(
-            &mut outputs,
-            &mut output_len,
-            &mut output_counts,
-            end,
-            a,
-            words[at + 2],
-        );
-        let Gained::Added { sets: y, topped: v } = output else {
-            return refuse(net, refusal::FULL_SIDE, 0);
-        };
-        new += x + y;
-        topped += u + v;
-        i += 1;
-        at += 3;
+    for binding in bindings(words) {
+        let a = binding.activity;
+        let input = gain_set(&mut net.inputs, net.start, a, binding.input)?;
+        let output = gain_set(&mut net.outputs, net.end, a, binding.output)?;
+        new += input.sets + output.sets;
+        topped += input.topped + output.topped;
     }
     if topped != 0 {
-        return refuse(net, refusal::COUNT_TOO_HIGH, 0);
+        return Err(Refusal::CountTooHigh.at(0));
     }
-    let grown = Net {
-        start: start,
-        end: end,
-        inputs: inputs,
-        outputs: outputs,
-        input_len: input_len,
-        output_len: output_len,
-        input_counts: input_counts,
-        output_counts: output_counts,
+    Ok(new)
+}
+
+// Puts m on activity a's side and counts its use. Whatever a put refuses is given as a full side: it refuses nothing else of the
+// sets of a sequence whose ends and empty sets are where they have to be.
+fn gain_set(sides: &mut Sides, empty: u32, a: u32, m: u32) -> Result<Added, Refusal>
+    requires orderly { OrderlySides sides.old.masks sides.old.lengths empty }
+    requires counts_long { length sides.old.counts ≡ places }
+    requires activity { a < activities }
+    ensures { SetGained sides.old empty a m result sides.new }
+{
+    let Ok(placed) = put_counted(sides, empty, a, m) else {
+        return Err(Refusal::FullSide);
     };
-    LearnResult {
-        answer: LearnAnswer::Learned { new: new },
-        net: grown,
-    }
-}
-
-// A refusal, with the net as it was given.
-pub fn refuse(net: Net, number: u32, place: u32) -> LearnResult
-    ensures { RefusedWith net number place result }
-{
-    LearnResult {
-        answer: LearnAnswer::Refused {
-            number: number,
-            place: place,
-        },
-        net: net,
-    }
-}
-
-// Puts m on activity a's side and counts its use.
-fn gain_set(
-    masks: &mut [u32; PLACES],
-    lengths: &mut [u32; LISTS],
-    counts: &mut [u32; PLACES],
-    empty: u32,
-    a: u32,
-    m: u32,
-) -> Gained
-    requires { OrderlySides masks.old lengths.old empty × (length counts.old ≡ places) × (a < activities) }
-    ensures { SetGained masks.old lengths.old counts.old empty a m result masks.new lengths.new counts.new }
-{
-    let placed = put_counted(masks, lengths, counts, empty, a, m);
-    match placed {
-        Placed::New(at) => Gained::Added {
-            sets: 1,
-            topped: raise(counts, at),
-        },
-        Placed::Present(at) => Gained::Added {
-            sets: 0,
-            topped: raise(counts, at),
-        },
-        Placed::Refused {
-            number: _,
-            place: _,
-        } => Gained::NoRoom,
-    }
+    let topped = raise(&mut sides.counts, placed.at);
+    Ok(Added {
+        sets: u32::from(placed.new),
+        topped,
+    })
 }
 
 // Raises the count at a place by one and answers 0; one that is at its top stays, and the answer is 1.
 fn raise(counts: &mut [u32; PLACES], at: usize) -> u32
-    requires { (length counts.old ≡ places) × (at < places) }
-    ensures { Raised counts.old at result counts.new }
+    requires { at < places }
+    ensures tops { result ≡ topped_at counts.old at }
+    ensures counts_are { counts.new ≡ raised_at counts.old at }
 {
     let count = counts[at];
     if count < MOST_USES {

@@ -1,70 +1,64 @@
 // Learn (paper 01, "Learning and containment").
 
-ghost use Rattle.std.specs.Prelude.{◌≡◌, true};
+ghost use Rattle.std.specs.Prelude.{◌≡◌, true, IfOk};
 ghost use Rattle.obligations.specs.Sequence.{bindings};
+ghost use Rattle.obligations.specs.Tests.{position_of};
 ghost use Rattle.net.specs.Orderly.{orderly};
-ghost use Rattle.sequences.specs.Learn.{first_wrongly_empty, LearnDone};
-ghost use Rattle.sequences.specs.Inner.{WithinLimits, PositionsDone};
+ghost use Rattle.sequences.specs.Learn.{first_wrongly_empty, gain_says, learn_says, LearnDone};
+ghost use Rattle.sequences.specs.Inner.{says_after, WithinLimits};
 
-use crate::gaining::{gain, refuse};
+use crate::gaining::gain;
 use crate::limits::sequence_limits;
 use crate::running::run;
-use crate::{LearnResult, Limited, Ran};
-use net::{Net, is_orderly, refusal};
+use net::{Net, Refusal, Refused, Returned, is_orderly};
+use obligations::sequence::bindings;
 use obligations::trace::is_shaped;
 
 // Learns a sequence, from whoever proposes it: the net gains exactly its X and Y sets, and the answer is the number that
 // were new. A refused call returns the net given.
-pub fn learn(net: Net, sequence: &[u32]) -> LearnResult
+pub fn learn(net: Net, sequence: &[u32]) -> Returned<u32>
     ensures { LearnDone net sequence.now result }
 {
+    match may_learn(&net, sequence) {
+        Ok(()) => gain(net, sequence),
+        Err(refused) => Returned {
+            answer: Err(refused),
+            net,
+        },
+    }
+}
+
+// The refusals of learn up to 11, which come before those of a sequence that doesn't fit or can't be counted.
+fn may_learn(net: &Net, words: &[u32]) -> Result<(), Refused>
+    ensures says { says_after result (gain_says net.now (bindings words.now)) ≡ learn_says net.now words.now }
+    ensures is_orderly { IfOk result (λ done. orderly net.now ≡ true) }
+    ensures within_limits { IfOk result (λ done. WithinLimits words.now) }
+{
     if !is_orderly(net) {
-        return refuse(net, refusal::DISORDERLY, 0);
+        return Err(Refusal::Disorderly.at(0));
     }
-    let limits = sequence_limits(sequence);
-    match limits {
-        Limited::Beyond(number, place) => refuse(net, number, place),
-        Limited::Within(n) => learn_positions(net, sequence, n),
-    }
-}
-
-// Learns a sequence of n positions that is within the limits.
-fn learn_positions(net: Net, words: &[u32], n: usize) -> LearnResult
-    requires net_value { orderly net ≡ true }
-    requires within_limits { WithinLimits words.now n }
-    ensures { PositionsDone net (bindings words.now) result }
-{
+    let n = sequence_limits(words)?;
     if !is_shaped(words, 3, n, net.start, net.end) {
-        return refuse(net, refusal::WRONG_ENDS, 0);
+        return Err(Refusal::WrongEnds.at(0));
     }
-    let place = first_wrongly_empty(words, n);
-    if place != 0 {
-        return refuse(net, refusal::WRONGLY_EMPTY, place);
+    if let Some(place) = first_wrongly_empty(words) {
+        return Err(Refusal::WronglyEmpty.at(place));
     }
-    let ran = run(words, n);
-    match ran {
-        Ran::Impossible(at) => refuse(net, refusal::NOT_POSSIBLE, at),
-        Ran::LeftOver => refuse(net, refusal::LEFT_OVER, 0),
-        Ran::Settled(_) => gain(net, words, n),
-    }
+    run(words)?;
+    Ok(())
 }
 
-// The first position whose X or Y is empty or filled where it may not be, or 0: X is empty at the first only, Y at the last.
-fn first_wrongly_empty(words: &[u32], n: usize) -> u32
-    requires { WithinLimits words.now n }
-    ensures { result ≡ first_wrongly_empty (bindings words.now) }
+// The first position whose X or Y is empty or filled where it may not be: X is empty at the first only, Y at the last.
+fn first_wrongly_empty(words: &[u32]) -> Option<u32>
+    requires { WithinLimits words.now }
+    ensures { result ≡ position_of (first_wrongly_empty (bindings words.now)) }
 {
-    let mut i: usize = 0;
-    let mut at: usize = 0;
-    while i < n {
-        if (words[at + 1] == 0) != (i == 0) {
-            return (i + 1) as u32;
+    for (i, binding) in bindings(words).enumerate() {
+        let is_first = i == 0;
+        let is_last = 3 * (i + 1) == words.len();
+        if (binding.input == 0) != is_first || (binding.output == 0) != is_last {
+            return Some(i as u32 + 1);
         }
-        if (words[at + 2] == 0) != (i + 1 == n) {
-            return (i + 1) as u32;
-        }
-        i += 1;
-        at += 3;
     }
-    0
+    None
 }

@@ -1,30 +1,33 @@
 // Refusals 3 and 4 of sequences and traces, for judge, learn and follow.
 
-ghost use Rattle.std.specs.Prelude.{◌≡◌, ◌<◌, ◌/◌};
-ghost use Rattle.sequences.specs.Inner.{LimitsOf, TraceLimitsOf};
+ghost use Rattle.std.specs.Prelude.{◌≡◌, ◌<◌, ◌/◌, IfOk, length};
+ghost use Rattle.obligations.specs.Sequence.{bindings};
+ghost use Rattle.net.specs.Refusals.{Says};
+ghost use Rattle.sequences.specs.Limits.{within_limits, trace_within_limits};
+ghost use Rattle.sequences.specs.Inner.{says_after, WithinLimits, TraceWithinLimits};
 
-use crate::Limited;
-use net::refusal;
+use net::{Refusal, Refused};
 use obligations::trace::first_no_activity;
 use obligations::{POSITIONS, SEQUENCE_WORDS};
 
 // How many positions the words of a sequence have: a multiple of three words, within the limit, activities below 32.
-pub fn sequence_limits(words: &[u32]) -> Limited
-    ensures { LimitsOf words.now result }
+pub fn sequence_limits(words: &[u32]) -> Result<usize, Refused>
+    ensures says { (rest : Says) → says_after result rest ≡ within_limits words.now rest }
+    ensures counts { IfOk result (λ n. n ≡ length (bindings words.now)) }
+    ensures within { IfOk result (λ n. WithinLimits words.now) }
 {
     let size = words.len();
     if SEQUENCE_WORDS < size {
-        return Limited::Beyond(refusal::OUTSIDE_LIMITS, 0);
+        return Err(Refusal::OutsideLimits.at(0));
     }
     let n = third(size);
     if 3 * n != size {
-        return Limited::Beyond(refusal::OUTSIDE_LIMITS, 0);
+        return Err(Refusal::OutsideLimits.at(0));
     }
-    let place = first_no_activity(words, 3, n);
-    if place != 0 {
-        return Limited::Beyond(refusal::NO_ACTIVITY, place);
+    match first_no_activity(words, 3, n) {
+        Some(place) => Err(Refusal::NoActivity.at(place)),
+        None => Ok(n),
     }
-    Limited::Within(n)
 }
 
 // A third of k, rounded down. For a browser a division stays one, and a loop that counts in threes may become one, so k is
@@ -37,17 +40,17 @@ fn third(k: usize) -> usize
     k * 171 >> 9
 }
 
-// How many positions a trace has: within the limit, activities below 32.
-pub fn trace_limits(trace: &[u32]) -> Limited
-    ensures { TraceLimitsOf trace.now result }
+// Whether a trace is within the limit, its activities below 32.
+pub fn trace_limits(trace: &[u32]) -> Result<(), Refused>
+    ensures says { (rest : Says) → says_after result rest ≡ trace_within_limits trace.now rest }
+    ensures within { IfOk result (λ done. TraceWithinLimits trace.now) }
 {
     let n = trace.len();
     if POSITIONS < n {
-        return Limited::Beyond(refusal::OUTSIDE_LIMITS, 0);
+        return Err(Refusal::OutsideLimits.at(0));
     }
-    let place = first_no_activity(trace, 1, n);
-    if place != 0 {
-        return Limited::Beyond(refusal::NO_ACTIVITY, place);
+    match first_no_activity(trace, 1, n) {
+        Some(place) => Err(Refusal::NoActivity.at(place)),
+        None => Ok(()),
     }
-    Limited::Within(n)
 }

@@ -1,42 +1,21 @@
--- `gain_set` meets its contract, case by case of what `put_counted` answers, and a raise where the set is on its side. Assumes
--- nothing.
-use mathlib.Core.Path.{◌∙◌, ap}
-use mathlib.Core.Logic.{inl, inr}
-use lib.ListN.{length}
-use Rattle.net.proofs.PutSideLaws.{length-put_counts}
-use Rattle.sequences.proofs.GainLaws.{raise_below, gained_new, gained_present, gained_refused}
+-- `gain_set` meets its contract, by what `put_counted` answers, and a raise where the set is on its side. Assumes nothing.
+use Rattle.std.proofs.Common.{◌≡◌, Bool, true, false, refl, ◌∙◌}
+use mir.Val.{bool_byte}
+use Rattle.obligations.specs.Tests.{indicator}
+use Rattle.sequences.proofs.GainLaws.{raise_below, gained_set, gained_none}
 use Rattle.sequences.proofs.gaining.gain_set.Goals as goal
 
-pub raise-requires : goal.raise-requires
-raise-requires c =
-    let s = c.args in
-    let p = c.put_counted-placed in (
-      ap length p.ensures.counts_are ∙ length-put_counts s.masks.now s.lengths.now s.counts.now s.empty s.a s.m c.requires.0 c.requires.1 c.requires.2,
-      raise_below s.masks.now s.lengths.now s.counts.now s.empty s.a s.m p.result _ _ _ p.ensures c.requires.0 c.requires.2 _ (inl c.in-New.is),
-    )
+as_number : (t : Bool) → bool_byte t ≡ indicator t
+as_number true = refl
+as_number false = refl
 
-pub raise-requires-in-Present : goal.raise-requires-in-Present
-raise-requires-in-Present c =
-    let s = c.args in
-    let p = c.put_counted-placed in (
-      ap length p.ensures.counts_are ∙ length-put_counts s.masks.now s.lengths.now s.counts.now s.empty s.a s.m c.requires.0 c.requires.1 c.requires.2,
-      raise_below s.masks.now s.lengths.now s.counts.now s.empty s.a s.m p.result _ _ _ p.ensures c.requires.0 c.requires.2 _ (inr c.in-Present.is),
-    )
+pub returns-in_default : goal.returns-in_default
+returns-in_default c = gained_none c.args.sides.now c.args.empty c.args.a c.args.m c.in_default.field-0 c.put_counted.new.sides c.in_default.ensures
 
-pub returns-in-New : goal.returns-in-New
-returns-in-New c =
-    let s = c.args in
-    let p = c.put_counted-placed in
-    gained_new s.masks.now s.lengths.now s.counts.now s.empty s.a s.m p.result _ _ _ p.ensures _ _ _ c.in-New.is c.raise.ensures
+pub raise-topped-requires : goal.raise-topped-requires
+raise-topped-requires c = raise_below c.args.sides.now c.args.empty c.args.a c.args.m c.in-Ok.placed c.put_counted.new.sides c.in-Ok.ensures c.requires.orderly c.requires.activity
 
-pub returns-in-Present : goal.returns-in-Present
-returns-in-Present c =
-    let s = c.args in
-    let p = c.put_counted-placed in
-    gained_present s.masks.now s.lengths.now s.counts.now s.empty s.a s.m p.result _ _ _ p.ensures _ _ _ c.in-Present.is c.raise-in-Present.ensures
-
-pub returns-in-Refused : goal.returns-in-Refused
-returns-in-Refused c =
-    let s = c.args in
-    let p = c.put_counted-placed in
-    gained_refused s.masks.now s.lengths.now s.counts.now s.empty s.a s.m p.result _ _ _ p.ensures _ _ c.in-Refused.is
+pub returns : goal.returns
+returns c =
+    rw (c.from.ensures ∙ as_number c.in-Ok.placed.new)
+    (gained_set c.args.sides.now c.args.empty c.args.a c.args.m c.in-Ok.placed c.put_counted.new.sides c.in-Ok.ensures c.raise-topped.result c.raise-topped.new.counts c.raise-topped.ensures.tops c.raise-topped.ensures.counts_are)

@@ -1,5 +1,5 @@
 -- `raise` meets its contract: by cases on whether the count is below its top. Assumes nothing.
-use borrow.Author.Tests.{lt-ltb, le-ltb}
+use Rattle.std.proofs.Common.{lt-ltb, le-ltb}
 use Rattle.sequences.specs.Gain.{raised_at, topped_at}
 use Rattle.sequences.proofs.gaining.raise.Goals as goal
 

@@ -1,22 +1,16 @@
-use Prim.Native.Nat.{◌-◌}
-use Rattle.sequences.proofs.JudgeLaws.{Searching}
+use Rattle.std.proofs.Common.{◌≡◌, None, drop}
+use Rattle.obligations.specs.Sequence.{bindings}
+use Rattle.net.specs.Lists.{listed}
 use Rattle.sequences.proofs.MissingLaws.{Passed}
 use Rattle.sequences.proofs.judging.first_missing.Given as goal
 
-abbrev pub invariant-loop-j : goal.invariant-loop-j
-invariant-loop-j l = Searching l.net.inputs l.net.input_len l.a l.x l.j
+abbrev pub invariant-loop-x : goal.invariant-loop-x
+invariant-loop-x l = listed l.binding.input l.x-items ≡ listed l.binding.input (drop l.x-index l.x-items)
 
-abbrev pub decreases-loop-j : goal.decreases-loop-j
-decreases-loop-j l = l.inputs_end - l.j
-
-abbrev pub invariant-loop-k : goal.invariant-loop-k
-invariant-loop-k l = Searching l.net.outputs l.net.output_len l.a l.y l.k
-
-abbrev pub decreases-loop-k : goal.decreases-loop-k
-decreases-loop-k l = l.outputs_end - l.k
+abbrev pub invariant-loop-y : goal.invariant-loop-y
+invariant-loop-y l = listed l.binding.output l.y-items ≡ listed l.binding.output (drop l.y-index l.y-items)
 
 abbrev pub invariant-positions : goal.invariant-positions
-invariant-positions l = Passed l.net l.words l.n l.i l.at
-
-abbrev pub decreases-positions : goal.decreases-positions
-decreases-positions l = l.n - l.i
+invariant-positions l =
+    (goal.iterator-positions).can_next l.i-iterator × (goal.iterator-positions).is_finite l.i-iterator
+    × (l.missing ≡ None) × Passed l.net (bindings l.words) l.i-iterator.count (bindings l.i-iterator.iter.rest.now)

@@ -1,12 +1,8 @@
-use Prim.Native.Nat.{◌*◌, ◌-◌, ◌≤◌}
-use mathlib.Core.Path.{◌≡◌}
 use Rattle.obligations.specs.Sequence.{bindings}
-use Rattle.obligations.proofs.PositionLaws.{AllPass}
-use Rattle.sequences.specs.Learn.{empty_agree}
+use Rattle.sequences.proofs.LearnLaws.{Agreeing}
 use Rattle.sequences.proofs.learning.first_wrongly_empty.Given as goal
 
 abbrev pub invariant-loop-i : goal.invariant-loop-i
-invariant-loop-i l = (l.i ≤ l.n) × (l.at ≡ 3 * l.i) × AllPass l.i (empty_agree (bindings l.words))
-
-abbrev pub decreases-loop-i : goal.decreases-loop-i
-decreases-loop-i l = l.n - l.i
+invariant-loop-i l =
+    (goal.iterator-loop-i).can_next l.i-iterator × (goal.iterator-loop-i).is_finite l.i-iterator
+    × Agreeing (bindings l.words) l.i-iterator.count (bindings l.i-iterator.iter.rest.now)

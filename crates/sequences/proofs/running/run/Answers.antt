@@ -1,39 +1,35 @@
 -- `run` meets its contract: the loop's invariant is `Running`, and each way out is one of its laws. Assumes nothing.
-use mathlib.Core.Path.{sym}
-use Rattle.sequences.proofs.RunLaws.{running_start, running_state, running_settled, running_left, running_impossible, running_next}
-use Rattle.sequences.proofs.WordLaws.{activity_below}
+use Rattle.std.proofs.Common.{rules, sym}
+use Rattle.obligations.specs.Sequence.{bindings}
+use Rattle.sequences.proofs.RunLaws.{running_start, running_state, running_settled, running_left, running_activity, running_impossible, running_next}
 use Rattle.sequences.proofs.running.run.Goals as goal
 
 pub loop-i-init : goal.loop-i-init
-loop-i-init c = running_start c.args.words.now c.args.n c.requires
+loop-i-init c = (search rules, tt, running_start (bindings c.args.words.now) _ _ _ (cc) (cc) c.new-due.ensures)
 
-pub step-stepped-requires : goal.step-stepped-requires
-step-stepped-requires c =
-    let l = c.loop-i in record {
-      a_lt_activities = activity_below c.args.words.now c.args.n c.requires l.i l.at c.loop-i-test.true l.invariant.placed;
-      state = running_state c.args.words.now c.args.n c.requires l.i l.at l.due l.total l.peak l.invariant;
-      pending_value = l.invariant.counted;
-    }
+pub step-requires-clause-is_activity : goal.step-requires-clause-is_activity
+step-requires-clause-is_activity c = running_activity _ _ _ _ _ _ c.loop-i.invariant.2 _ _ c.in-Some.ensures.steps.0 c.requires.activities_only
+
+pub step-requires-clause-has_room : goal.step-requires-clause-has_room
+step-requires-clause-has_room c = running_state _ _ _ _ _ _ c.loop-i.invariant.2 c.requires.few
+
+pub step-requires-clause-is_total : goal.step-requires-clause-is_total
+step-requires-clause-is_total c = c.loop-i.invariant.2.counted
 
 pub returns-in_default : goal.returns-in_default
 returns-in_default c =
-    let l = c.loop-i in
-    sym (running_impossible c.args.words.now c.args.n c.requires l.i l.at l.due l.total l.peak l.invariant c.loop-i-test.true (rw c.step-stepped.ensures.0 at c.in_default.is))
+    rw (c.at.ensures, c.in-Some.ensures.steps.1) (running_impossible _ _ _ _ _ _ c.loop-i.invariant.2 _ _ c.in-Some.ensures.steps.0 (sym c.in_default.ensures.reports))
 
 pub loop-i-preserved : goal.loop-i-preserved
-loop-i-preserved c =
-    let l = c.loop-i in
-    running_next c.args.words.now c.args.n c.requires l.i l.at l.due l.total l.peak l.invariant c.loop-i-test.true _ _ _
-    (rw c.step-stepped.ensures.0 at c.in-Total.is)
-    c.step-stepped.ensures.1
-    c.larger-peak.ensures
+loop-i-preserved c = (
+  c.in-Some.ensures.goes.keeps,
+  tt,
+  rw (c.in-Some.ensures.steps.2, c.max-peak.ensures)
+      (running_next _ _ _ _ _ _ c.loop-i.invariant.2 _ _ c.in-Some.ensures.steps.0 _ _ (sym c.in-Some-step.ensures.reports) c.in-Some-step.ensures.leaves),
+)
 
-pub returns-then-total-eq0 : goal.returns-then-total-eq0
-returns-then-total-eq0 c =
-    let l = c.loop-i in
-    sym (running_settled c.args.words.now c.args.n c.requires l.i l.at l.due l.total l.peak l.invariant c.loop-i-test.false c.if-total-eq0.true)
+pub returns-then-total-ne0 : goal.returns-then-total-ne0
+returns-then-total-ne0 c = rw c.at-then-total-ne0.ensures (running_left _ _ _ _ _ _ c.loop-i.invariant.2 c.in-None.ensures.steps.0.0 c.if-total-ne0.true)
 
-pub returns-else-total-eq0 : goal.returns-else-total-eq0
-returns-else-total-eq0 c =
-    let l = c.loop-i in
-    sym (running_left c.args.words.now c.args.n c.requires l.i l.at l.due l.total l.peak l.invariant c.loop-i-test.false c.if-total-eq0.false)
+pub returns : goal.returns
+returns c = running_settled _ _ _ _ _ _ c.loop-i.invariant.2 c.in-None.ensures.steps.0.0 c.if-total-ne0.false
