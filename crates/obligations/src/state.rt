@@ -162,7 +162,8 @@ fn outputs(a: u32, y: u32) -> Places
     }
 }
 
-// Takes one from each of the places.
+// Takes one from each of the places. Not one function with `raise`: the two ask different things of the counts, which a
+// shared walk with a closure would have to ask of the closure.
 fn lower(counts: &mut [u8; PAIRS], places: Places)
     requires { all_due counts.old (places_left places) ≡ true }
     ensures { counts.new ≡ lowered counts.old (places_left places) }
