@@ -8,17 +8,8 @@ mod replaying;
 
 pub use replaying::{replay, replay_lent};
 
-// How a replay ended, with the number of trials; or the refusal's number and the place that is returned with it.
-#[derive(Clone, Copy)]
-pub enum ReplayAnswer {
-    Found { trials: u64 },
-    None { trials: u64 },
-    Spent { trials: u64 },
-    Refused { number: u32, place: u32 },
-}
-
-// How the search from a position on ended, with the number of all trials so far.
-#[derive(Clone, Copy)]
+// How a replay, or its search from a position on, ended: with the number of all trials so far.
+#[derive(Clone, Copy, Debug, PartialEq, Eq)]
 pub enum Outcome {
     Found { trials: u64 },
     Failed { trials: u64 },

@@ -1,10 +1,10 @@
--- `search::backtrack::at_end` meets its contract: by the test of the state. Assumes nothing.
-use mathlib.Core.Path.{sym, ◌∙◌}
+-- `at_end` meets its contract: by the test of the state. Assumes nothing.
+use Rattle.std.proofs.Common.{sym}
 use Rattle.search.proofs.ResultLaws.{end-found, end-failed}
 use Rattle.search.proofs.backtrack.at_end.Goals as goal
 
 pub returns-then-is_zero : goal.returns-then-is_zero
-returns-then-is_zero c = end-found _ _ (sym c.is_zero.ensures ∙ c.if-is_zero.true)
+returns-then-is_zero c = end-found _ _ (sym c.if-is_zero.ensures)
 
 pub returns-else-is_zero : goal.returns-else-is_zero
-returns-else-is_zero c = end-failed _ _ (sym c.is_zero.ensures ∙ c.if-is_zero.false)
+returns-else-is_zero c = end-failed _ _ (sym c.if-is_zero.ensures)

@@ -1,74 +1,61 @@
--- `search::replaying::replay` meets its contract: the refusals number by number, and then the replay in the net that passed.
--- Assumes nothing.
-use Rattle.std.proofs.Common.{ap, sym, ◌∙◌, arith, length, get_or}
-use Rattle.net.specs.Refusals.{accepted, refused, no_activity}
-use Rattle.net.specs.declared.Side.TheVariants.{Input, Output}
-use Rattle.net.proofs.OrderlyLaws.{orderly_arrays}
-use Rattle.net.proofs.UncountedLaws.{uncounted-orderly}
-use Rattle.walks.proofs.CheckLaws.{passing_rest, answer_clear, answer_refused}
-use Rattle.walks.proofs.UncountedLaws.{pass_says-uncounted}
+-- `replay` meets its contract: the refusals number by number, and then the replay in the net that passed. Assumes nothing.
+use Rattle.std.proofs.Common.{◌≡◌, sym, ap, ◌∙◌, arith, length, get_or}
+use Rattle.std.proofs.lemmas.Result.{err_from_is_err_and}
+use Rattle.obligations.proofs.PositionLaws.{some_position, none_position}
 use Rattle.obligations.proofs.TraceLaws.{activities_below}
+use Rattle.net.specs.Refusals.{accepted, refused, no_activity}
+use Rattle.net.specs.declared.sides.Side.TheVariants.{Input, Output}
+use Rattle.net.specs.Traces.{no_activity_in}
+use Rattle.net.proofs.OrderlyLaws.{orderly_arrays}
+use Rattle.walks.proofs.CheckLaws.{passing_rest, answer_clear, answer_refused}
 use Rattle.search.proofs.TraceLaws.{no_activity-ones, room_facts}
-use Rattle.search.proofs.UncountedLaws.{checked_done_uncounted}
 use Rattle.search.proofs.ReplayLaws.{refuses_disorderly, refuses_room, refuses_activity, tests_net, refused_done, unrefused_done}
 use Rattle.search.proofs.replaying.replay.Goals as goal
 
 pub returns-then-not-is_orderly : goal.returns-then-not-is_orderly
 returns-then-not-is_orderly c =
     let g = c.args in
-    refused_done g.net g.trace.now _ _ _ _ (refuses_disorderly g.net g.trace.now _ (sym c.is_orderly.ensures ∙ c.if-not-is_orderly.true))
+    rw c.at.ensures (refused_done g.net g.trace.now _ _ _ (refuses_disorderly g.net g.trace.now _ (sym c.if-not-is_orderly.ensures)))
 
 pub returns-then-not-has_room : goal.returns-then-not-has_room
 returns-then-not-has_room c =
     let g = c.args in
-    let o = sym c.is_orderly.ensures ∙ c.if-not-is_orderly.false in
-    refused_done g.net g.trace.now _ _ _ _ (refuses_room g.net g.trace.now _ o (sym c.has_room.ensures ∙ c.if-not-has_room.true))
+    rw c.at-then-not-has_room.ensures (refused_done g.net g.trace.now _ _ _ (refuses_room g.net g.trace.now _ (sym c.if-not-is_orderly.ensures) (sym c.if-not-has_room.ensures)))
 
-pub first_no_activity-place-requires : goal.first_no_activity-place-requires
-first_no_activity-place-requires c =
-    let r = sym c.has_room.ensures ∙ c.if-not-has_room.false in
-    let few = (room_facts _ _ r).0 in (omega arith, omega arith, omega arith)
+pub first_no_activity-requires : goal.first_no_activity-requires
+first_no_activity-requires c = let few = (room_facts _ _ (sym c.if-not-has_room.ensures)).0 in (omega arith, omega arith, omega arith)
 
-pub returns-then-place-ne0 : goal.returns-then-place-ne0
-returns-then-place-ne0 c =
+pub returns-in-Some : goal.returns-in-Some
+returns-in-Some c =
     let g = c.args in
-    let o = sym c.is_orderly.ensures ∙ c.if-not-is_orderly.false in
-    let r = sym c.has_room.ensures ∙ c.if-not-has_room.false in
-    let e = c.first_no_activity-place.ensures ∙ no_activity-ones g.trace.now in
-    refused_done g.net g.trace.now _ _ _ _ (refuses_activity g.net g.trace.now _ o r (λ z. c.if-place-ne0.true (e ∙ z)) ∙ ap (refused no_activity) (sym e))
+    let p = some_position _ _ (sym c.in-Some.ensures) in
+    let is : no_activity_in g.trace.now ≡ c.in-Some.place = sym (no_activity-ones g.trace.now) ∙ p.0 in
+    rw c.at-in-Some.ensures
+    (refused_done g.net g.trace.now _ _ _
+    (refuses_activity g.net g.trace.now _ (sym c.if-not-is_orderly.ensures) (sym c.if-not-has_room.ensures) (λ z. omega (arith, p.1)) ∙ ap (refused no_activity) is))
 
-pub check_lent-checked-requires : goal.check_lent-checked-requires
-check_lent-checked-requires c = uncounted-orderly _ (sym c.is_orderly.ensures ∙ c.if-not-is_orderly.false)
-
-pub returns-in-Refused : goal.returns-in-Refused
-returns-in-Refused c =
+pub returns-in_err-check_lent : goal.returns-in_err-check_lent
+returns-in_err-check_lent c =
     let g = c.args in
-    let o = sym c.is_orderly.ensures ∙ c.if-not-is_orderly.false in
-    let r = sym c.has_room.ensures ∙ c.if-not-has_room.false in
-    let a = sym (c.first_no_activity-place.ensures ∙ no_activity-ones g.trace.now) ∙ c.if-place-ne0.false in
-    let net_decides = tests_net g.net g.trace.now _ o r a in
-    let k = c.check_lent-checked in
-    refused_done g.net g.trace.now _ _ _ _ (net_decides ∙ answer_refused g.net k.result (k.ensures ∙ pass_says-uncounted _) (accepted 0) _ _ c.in-Refused.is)
+    let a = sym (no_activity-ones g.trace.now) ∙ none_position _ (sym c.in_default.ensures) in
+    let p = err_from_is_err_and c.from_residual.result c.from_residual.ensures.1 in
+    let net_decides = tests_net g.net g.trace.now (length g.out.now) (sym c.if-not-is_orderly.ensures) (sym c.if-not-has_room.ensures) a in
+    rw (p.1, p.2) (refused_done g.net g.trace.now _ _ _ (net_decides ∙ answer_refused g.net c.check_lent.result c.check_lent.ensures (accepted 0) _ c.in_err-check_lent.was))
 
-pub replay_lent-requires : goal.replay_lent-requires
-replay_lent-requires c =
-    let g = c.args in
-    let o = sym c.is_orderly.ensures ∙ c.if-not-is_orderly.false in
-    let r = sym c.has_room.ensures ∙ c.if-not-has_room.false in
-    let a = sym (c.first_no_activity-place.ensures ∙ no_activity-ones g.trace.now) ∙ c.if-place-ne0.false in
-    let f = room_facts _ _ r in
-    record {
-      sides = (orderly_arrays g.net o Input, orderly_arrays g.net o Output);
-      trace_with_room = record { few_positions = f.0; activities_only = activities_below (length g.trace.now) (λ i. get_or g.trace.now i 0) a; three_words_each = f.1 };
-    }
+pub replay_lent-requires-clause-sides : goal.replay_lent-requires-clause-sides
+replay_lent-requires-clause-sides c = let o = sym c.if-not-is_orderly.ensures in (orderly_arrays c.args.net o Input, orderly_arrays c.args.net o Output)
+
+pub replay_lent-requires-clause-trace_with_room : goal.replay_lent-requires-clause-trace_with_room
+replay_lent-requires-clause-trace_with_room c =
+    let trace = c.args.trace.now in
+    let f = room_facts _ _ (sym c.if-not-has_room.ensures) in
+    let a = sym (no_activity-ones trace) ∙ none_position _ (sym c.in_default.ensures) in
+    record { few_positions = f.0; activities_only = activities_below (length trace) (λ i. get_or trace i 0) a; three_words_each = f.1 }
 
 pub returns : goal.returns
 returns c =
     let g = c.args in
-    let o = sym c.is_orderly.ensures ∙ c.if-not-is_orderly.false in
-    let r = sym c.has_room.ensures ∙ c.if-not-has_room.false in
-    let a = sym (c.first_no_activity-place.ensures ∙ no_activity-ones g.trace.now) ∙ c.if-place-ne0.false in
-    let net_decides = tests_net g.net g.trace.now _ o r a in
-    let k = c.check_lent-checked in
-    let clear = answer_clear g.net k.result (k.ensures ∙ pass_says-uncounted _) _ c.in_default.is in
-    unrefused_done g.net g.trace.now _ (net_decides ∙ passing_rest g.net _ clear) c.answered.ensures (checked_done_uncounted _ _ _ _ _ _ c.replay_lent.ensures)
+    let a = sym (no_activity-ones g.trace.now) ∙ none_position _ (sym c.in_default.ensures) in
+    let net_decides = tests_net g.net g.trace.now (length g.out.now) (sym c.if-not-is_orderly.ensures) (sym c.if-not-has_room.ensures) a in
+    let clear = answer_clear g.net c.check_lent.result c.check_lent.ensures _ c.in_ok-check_lent.was in
+    unrefused_done g.net g.trace.now _ (net_decides ∙ passing_rest g.net _ clear) c.replay_lent.ensures
