@@ -19,19 +19,18 @@ use Rattle.net.specs.Sides.{uncounted, OnSide}
 use Rattle.net.specs.Orderly.{ends_ok, orderly}
 use Rattle.net.specs.Fresh.{fresh_net}
 use Rattle.net.specs.declared.Net.{Net}
-use Rattle.net.specs.declared.Side.{Side}
+use Rattle.std.specs.Prelude.{Result, Ok, Err}
+use Rattle.net.specs.declared.refusal.Refusal.{Refusal}
+use Rattle.net.specs.declared.sides.Side.{Side}
 use Rattle.net.proofs.OrderlyLaws.{facts_ends}
 use Rattle.net.proofs.FreshLaws.{fresh_start, fresh-end, fresh_on_side, fresh_orderly, zero_one, fresh-uncounted}
 use Rattle.net.proofs.PutLaws.{put_start, put_end, put_on_side}
 use Rattle.net.proofs.WithinLaws.{same_empty}
 use Rattle.netfile.specs.Limits.{net_bytes}
-use Rattle.netfile.specs.NetFile.{net_header, start_word, end_word, read_end, read_set_row, row_says, row_gives, FileReading, refused_at, read_rows, after_end, from_end, after_start, from_start, from_header, read_net}
+use Rattle.netfile.specs.NetFile.{net_header, start_word, end_word, row_of_set, read_end, read_set_row, row_says, row_gives, FileReading, refused_at, read_rows, after_end, from_end, after_start, from_start, from_header, read_net}
 use Rattle.netfile.specs.Refusals.{IsSetRow}
 use Rattle.netfile.specs.Statements.{HasRow, SaidBy}
-use Rattle.netfile.specs.declared.line.EndLine.{EndLine}
-use Rattle.netfile.specs.declared.line.EndLine.TheVariants.{Activity, Refused}
-use Rattle.netfile.specs.declared.line.RowLine.{RowLine}
-use Rattle.netfile.specs.declared.line.RowLine.TheVariants as row_Line
+use Rattle.netfile.specs.declared.line.SetRow.{SetRow}
 use Rattle.netfile.proofs.PutRowLaws.{row-orderly, row-uncounted}
 use Rattle.netfile.proofs.LineReadLaws.{end_is, start_exactly, end_exactly, RowSaid, row_form, row_number, set_row, row_said, row_exactly}
 
@@ -87,9 +86,9 @@ rows_said n net (l ∷ ls) h =
     let t = taken n net l ls h in
     ap (λ (r : FileReading). r.says) t.all ∙ rows_said (n + 1) (row_gives net (read_set_row l)) ls t.others
 
-row_start_lem : (net : Net) (row : RowLine) → ((row_gives net row).start ≡ net.start) × ((row_gives net row).end ≡ net.end)
-row_start_lem net (row_Line.Set side a m) = (put_start net side a m, put_end net side a m)
-row_start_lem net (row_Line.Refused k) = (refl, refl)
+row_start_lem : (net : Net) (row : Result SetRow Refusal) → ((row_gives net row).start ≡ net.start) × ((row_gives net row).end ≡ net.end)
+row_start_lem net (Ok r) = (put_start net r.side r.activity r.set, put_end net r.side r.activity r.set)
+row_start_lem net (Err k) = (refl, refl)
 
 pub rows_ends : (n : ℕ) (net : Net) (ls : List (List ℕ)) → (read_rows n net ls).says.ok ≡ true → ((read_rows n net ls).net.start ≡ net.start) × ((read_rows n net ls).net.end ≡ net.end)
 unfolding read_rows
@@ -101,11 +100,11 @@ rows_ends n net (l ∷ ls) h =
     (ap (λ (r : FileReading). r.net.start) t.all ∙ f.0 ∙ g.0, ap (λ (r : FileReading). r.net.end) t.all ∙ f.1 ∙ g.1)
 
 -- what one row that was put leaves on the sides
-row-holds : (net : Net) (row : RowLine) → (row_says net row).ok ≡ true → (side : Side) (a m : ℕ)
-    → OnSide (row_gives net row) side a m ↔ (OnSide net side a m ⊎ (row ≡ row_Line.Set side a m))
-row-holds net (row_Line.Refused k) ok side a m = absurd (false-not-true refl ok)
-row-holds net (row_Line.Set s b x) ok side a m =
-    let f = put_on_side net s b x ok side a m in (
+row-holds : (net : Net) (row : Result SetRow Refusal) → (row_says net row).ok ≡ true → (side : Side) (a m : ℕ)
+    → OnSide (row_gives net row) side a m ↔ (OnSide net side a m ⊎ (row ≡ Ok (row_of_set side a m)))
+row-holds net (Err k) ok side a m = absurd (false-not-true refl ok)
+row-holds net (Ok r) ok side a m =
+    let f = put_on_side net r.side r.activity r.set ok side a m in (
       (λ i. ⊎_elim (λ j. inl j) (λ e. inr (rw (e.0, e.1, e.2))) (f.0 i)),
       (λ w. f.1 (⊎_elim (λ j. inl j) (λ e. inr (sym (cc), sym (cc), sym (cc))) w)),
     )
@@ -123,7 +122,7 @@ rows_hold n net (l ∷ ls) h side a m =
       (λ w. rw t.all (f.1 (⊎_elim (λ k. inl (g.1 (inl k))) (λ r. later g.1 r (Memᴰ.cases_cons r.there)) w))),
     )
   where
-    later : ((OnSide net side a m ⊎ (read_set_row l ≡ row_Line.Set side a m)) → OnSide (row_gives net (read_set_row l)) side a m) → (r : HasRow (l ∷ ls) side a m) → (r.line ≡ l) ⊎ Memᴰ r.line ls
+    later : ((OnSide net side a m ⊎ (read_set_row l ≡ Ok (row_of_set side a m))) → OnSide (row_gives net (read_set_row l)) side a m) → (r : HasRow (l ∷ ls) side a m) → (r.line ≡ l) ⊎ Memᴰ r.line ls
         → OnSide (row_gives net (read_set_row l)) side a m ⊎ HasRow ls side a m
     later g r (inl e) = inl (g (inr (ap read_set_row (sym e) ∙ (row_exactly r.line side a m).1 r.is_row)))
     later g r (inr u) = inr (record { line = r.line; there = u; is_row = r.is_row })
@@ -135,7 +134,7 @@ rows_are_rows n net (l ∷ ls) h line i =
     let t = taken n net l ls h in
     ⊎_elim (λ e. rw e (is_row (row_said l) t.first)) (rows_are_rows (n + 1) (row_gives net (read_set_row l)) ls t.others line) (Memᴰ.cases_cons i)
   where
-    is_row : {r : RowLine} → RowSaid l r → (row_says net r).ok ≡ true → (side : Side) × (a : ℕ) × (m : ℕ) × IsSetRow side a m l
+    is_row : {r : Result SetRow Refusal} → RowSaid l r → (row_says net r).ok ≡ true → (side : Side) × (a : ℕ) × (m : ℕ) × IsSetRow side a m l
     is_row (row_form w) e = absurd (false-not-true refl e)
     is_row (row_number f w) e = absurd (false-not-true refl e)
     is_row (set_row side a m f g r) e = (side, a, m, r)
@@ -150,8 +149,8 @@ pub record FileParts (text : List ℕ) : Type 0 where
   pub end_line : List ℕ
   pub rows : List (List ℕ)
   pub are_lines : lines text ≡ net_header ∷ start_line ∷ end_line ∷ rows
-  pub start_read : read_end start_word start_line ≡ Activity start
-  pub end_read : read_end end_word end_line ≡ Activity end
+  pub start_read : read_end start_word start_line ≡ Ok start
+  pub end_read : read_end end_word end_line ≡ Ok end
   pub ends : ends_ok start end ≡ true
   pub is_rows : read_net text ≡ read_rows 4 (fresh_net start end) rows
   pub fine : (read_rows 4 (fresh_net start end) rows).says.ok ≡ true
@@ -163,7 +162,7 @@ accepted_parts text h = size (leb (length text) net_bytes) refl
     never : (n p : ℕ) → read_net text ≡ refused_at n p → ⊥
     never n p e = false-not-true (ap (λ (r : FileReading). r.says.ok) e) h
 
-    ends : (start end : ℕ) (s e : List ℕ) (rs : List (List ℕ)) → read_end start_word s ≡ Activity start → read_end end_word e ≡ Activity end → lines text ≡ net_header ∷ s ∷ e ∷ rs
+    ends : (start end : ℕ) (s e : List ℕ) (rs : List (List ℕ)) → read_end start_word s ≡ Ok start → read_end end_word e ≡ Ok end → lines text ≡ net_header ∷ s ∷ e ∷ rs
         → (t : Bool) (k n : ℕ) → eqb start end ≡ t → read_net text ≡ unless_by refused_at (not t) k n (read_rows 4 (fresh_net start end) rs) → FileParts text
     ends start end s e rs p q ls true k n d u = absurd (never k n u)
     ends start end s e rs p q ls false k n d u = record {
@@ -180,18 +179,18 @@ accepted_parts text h = size (leb (length text) net_bytes) refl
       fine = sym (ap (λ (r : FileReading). r.says.ok) u) ∙ h;
     }
 
-    third : (start : ℕ) (s e : List ℕ) (rs : List (List ℕ)) → read_end start_word s ≡ Activity start → lines text ≡ net_header ∷ s ∷ e ∷ rs
-        → (r : EndLine) → read_end end_word e ≡ r → read_net text ≡ after_end start r rs → FileParts text
-    third start s e rs p ls (Activity end) q u = ends start end s e rs p q ls (eqb start end) _ _ refl u
-    third start s e rs p ls (Refused k) q u = absurd (never k 3 u)
+    third : (start : ℕ) (s e : List ℕ) (rs : List (List ℕ)) → read_end start_word s ≡ Ok start → lines text ≡ net_header ∷ s ∷ e ∷ rs
+        → (r : Result ℕ Refusal) → read_end end_word e ≡ r → read_net text ≡ after_end start r rs → FileParts text
+    third start s e rs p ls (Ok end) q u = ends start end s e rs p q ls (eqb start end) _ _ refl u
+    third start s e rs p ls (Err k) q u = absurd (never _ 3 u)
 
-    from_third : (start : ℕ) (s : List ℕ) (rs : List (List ℕ)) → read_end start_word s ≡ Activity start → lines text ≡ net_header ∷ s ∷ rs → read_net text ≡ from_end start rs → FileParts text
+    from_third : (start : ℕ) (s : List ℕ) (rs : List (List ℕ)) → read_end start_word s ≡ Ok start → lines text ≡ net_header ∷ s ∷ rs → read_net text ≡ from_end start rs → FileParts text
     from_third start s [] p ls u = absurd (never line_form 3 u)
     from_third start s (e ∷ rs) p ls u = third start s e rs p ls (read_end end_word e) refl u
 
-    second : (s : List ℕ) (rs : List (List ℕ)) → lines text ≡ net_header ∷ s ∷ rs → (r : EndLine) → read_end start_word s ≡ r → read_net text ≡ after_start r rs → FileParts text
-    second s rs ls (Activity start) p u = from_third start s rs p ls u
-    second s rs ls (Refused k) p u = absurd (never k 2 u)
+    second : (s : List ℕ) (rs : List (List ℕ)) → lines text ≡ net_header ∷ s ∷ rs → (r : Result ℕ Refusal) → read_end start_word s ≡ r → read_net text ≡ after_start r rs → FileParts text
+    second s rs ls (Ok start) p u = from_third start s rs p ls u
+    second s rs ls (Err k) p u = absurd (never _ 2 u)
 
     from_second : (rs : List (List ℕ)) → lines text ≡ net_header ∷ rs → read_net text ≡ from_start rs → FileParts text
     from_second [] ls u = absurd (never line_form 2 u)
@@ -233,21 +232,21 @@ read-refused text h = whole (leb (length text) net_bytes) (from_header (lines te
     whole true r n p f = f
     whole false r n p f = λ q. refl
 
-    third : (start : ℕ) (r : EndLine) (ls : List (List ℕ)) → Fresh (after_end start r ls)
-    third start (Activity end) ls = equal (eqb start end) _ _
+    third : (start : ℕ) (r : Result ℕ Refusal) (ls : List (List ℕ)) → Fresh (after_end start r ls)
+    third start (Ok end) ls = equal (eqb start end) _ _
       where
         equal : (t : Bool) (k n : ℕ) → Fresh (unless_by refused_at (not t) k n (read_rows 4 (fresh_net start end) ls))
         equal true k n = λ q. refl
         equal false k n = rows-refused 4 (fresh_net start end) ls
-    third start (Refused k) ls = λ q. refl
+    third start (Err k) ls = λ q. refl
 
     from_third : (start : ℕ) (ls : List (List ℕ)) → Fresh (from_end start ls)
     from_third start [] = λ q. refl
     from_third start (l ∷ ls) = third start (read_end end_word l) ls
 
-    second : (r : EndLine) (ls : List (List ℕ)) → Fresh (after_start r ls)
-    second (Activity start) ls = from_third start ls
-    second (Refused k) ls = λ q. refl
+    second : (r : Result ℕ Refusal) (ls : List (List ℕ)) → Fresh (after_start r ls)
+    second (Ok start) ls = from_third start ls
+    second (Err k) ls = λ q. refl
 
     from_second : (ls : List (List ℕ)) → Fresh (from_start ls)
     from_second [] = λ q. refl

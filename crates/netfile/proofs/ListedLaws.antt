@@ -26,10 +26,12 @@ use Rattle.net.specs.Chains.{unless_by}
 use Rattle.net.specs.Sides.{empty_at, OnSide}
 use Rattle.net.specs.Orderly.{orderly}
 use Rattle.net.specs.Fresh.{fresh_net}
+use Rattle.std.specs.Prelude.{Result}
+use Rattle.net.specs.declared.refusal.Refusal.{Refusal}
 use Rattle.net.specs.Put.{Exceeds, put_says, put_gives}
 use Rattle.net.specs.declared.Net.{Net}
-use Rattle.net.specs.declared.Side.{Side}
-use Rattle.net.specs.declared.Side.TheVariants.{Input, Output}
+use Rattle.net.specs.declared.sides.Side.{Side}
+use Rattle.net.specs.declared.sides.Side.TheVariants.{Input, Output}
 use Rattle.net.proofs.SentenceLaws.{ascends, InOrder, ToldFrom, passed_all, line_passes, line_stops, told_by_line, refused-same, accepted-not-refused, holds-whole, not-whole}
 use Rattle.net.proofs.OrderlyLaws.{facts_ends}
 use Rattle.net.proofs.FreshLaws.{fresh_start, fresh-end, fresh_orderly, fresh_on_side}
@@ -40,8 +42,7 @@ use Rattle.net.proofs.DistinctLaws.{fewer}
 use Rattle.netfile.specs.Limits.{net_bytes}
 use Rattle.netfile.specs.NetFile.{net_header, start_word, end_word, read_end, read_set_row, row_says, row_gives, refused_at, read_rows, after_end, from_end, after_start, from_start, from_header, read_net}
 use Rattle.netfile.specs.Refusals.{IsEnd, IsSetRow, HoldsEmpty, MisplacedRow, RowUpTo, FullSide, net_refusals}
-use Rattle.netfile.specs.declared.line.EndLine.{EndLine}
-use Rattle.netfile.specs.declared.line.RowLine.{RowLine}
+use Rattle.netfile.specs.declared.line.SetRow.{SetRow}
 use Rattle.netfile.proofs.RowLaws.{row_commas as row-commas-said}
 use Rattle.netfile.proofs.LineReadLaws.{EndSaid, end_form, end_no_activity, end_row, end_said, start-same, end_same, RowSaid, row_form, row_number, set_row, row_said, row_exactly, row_same}
 
@@ -152,7 +153,7 @@ module _ (text : List ℕ) where
   passes = line_passes refused (net_refusals text) (accepted 0)
 
   -- one row on line 4 + j, and the rows after it
-  row_told : (j : ℕ) (net : Net) (ls : List (List ℕ)) → SoFar (suc (suc (suc j))) net → HasLine text (suc (suc (suc (suc j)))) → {row : RowLine} → RowSaid (line_at text (suc (suc (suc (suc j))))) row
+  row_told : (j : ℕ) (net : Net) (ls : List (List ℕ)) → SoFar (suc (suc (suc j))) net → HasLine text (suc (suc (suc (suc j)))) → {row : Result SetRow Refusal} → RowSaid (line_at text (suc (suc (suc (suc j))))) row
       → ((net' : Net) → SoFar (suc (suc (suc (suc j)))) net' → Told (suc (suc (suc (suc (suc j))))) (read_rows (suc (suc (suc (suc j))) + 1) net' ls).says)
       → Told (suc (suc (suc (suc j))))
       (cond (row_says net row).ok (read_rows (suc (suc (suc (suc j))) + 1) (row_gives net row) ls) (refused_at (row_says net row).refusal (suc (suc (suc (suc j)))))).says
@@ -210,7 +211,7 @@ module _ (text : List ℕ) where
         );
       }
 
-  third_told : (start : ℕ) (ls : List (List ℕ)) → IsEnd start_word start (line_at text 2) → HasLine text 3 → drop 3 (lines text) ≡ ls → {row : EndLine} → EndSaid end_word (line_at text 3) row → Told 3 (after_end start row ls).says
+  third_told : (start : ℕ) (ls : List (List ℕ)) → IsEnd start_word start (line_at text 2) → HasLine text 3 → drop 3 (lines text) ≡ ls → {row : Result ℕ Refusal} → EndSaid end_word (line_at text 3) row → Told 3 (after_end start row ls).says
   third_told start ls s has e (end_form w) = stops 3 line_form (inl (refl, holds-whole (inr w)))
   third_told start ls s has e (end_no_activity f w) = stops 3 number_form (inr (not-whole (⊎_elim (λ m. m has) f), inl (refl, holds-whole w)))
   third_told start ls s has e (end_row end f g i) = go (eqb start end) refl
@@ -236,7 +237,7 @@ module _ (text : List ℕ) where
       let r : EndSaid end_word (line_at text 3) (read_end end_word l) = rw (← w.1) (end_said end_word (line_at text 3)) in
       third_told start ls s w.0 w.2 r
 
-  second_told : (ls : List (List ℕ)) → HasLine text 2 → drop 2 (lines text) ≡ ls → {row : EndLine} → EndSaid start_word (line_at text 2) row → Told 2 (after_start row ls).says
+  second_told : (ls : List (List ℕ)) → HasLine text 2 → drop 2 (lines text) ≡ ls → {row : Result ℕ Refusal} → EndSaid start_word (line_at text 2) row → Told 2 (after_start row ls).says
   second_told ls has e (end_form w) = stops 2 line_form (inl (refl, holds-whole (inr w)))
   second_told ls has e (end_no_activity f w) = stops 2 number_form (inr (not-whole (⊎_elim (λ m. m has) f), inl (refl, holds-whole w)))
   second_told ls has e (end_row start f g i) =

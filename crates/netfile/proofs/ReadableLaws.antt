@@ -21,8 +21,8 @@ use Rattle.net.specs.Sides.{masks_of, lengths_of, empty_at, sets_on, OnSide}
 use Rattle.net.specs.Orderly.{orderly}
 use Rattle.net.specs.Contained.{Contained}
 use Rattle.net.specs.declared.Net.{Net}
-use Rattle.net.specs.declared.Side.{Side}
-use Rattle.net.specs.declared.Side.TheVariants.{Input, Output}
+use Rattle.net.specs.declared.sides.Side.{Side}
+use Rattle.net.specs.declared.sides.Side.TheVariants.{Input, Output}
 use Rattle.net.proofs.ListLaws.{listed-first, listed_one}
 use Rattle.net.proofs.DistinctLaws.{distinct-within, fewer}
 use Rattle.net.proofs.SideLaws.{side_just_empty}

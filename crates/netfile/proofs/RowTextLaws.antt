@@ -23,12 +23,11 @@ use Rattle.text.proofs.MemberListLaws.{parse_print_members, members_free, member
 use Rattle.net.specs.Lists.{listed}
 use Rattle.net.specs.Sides.{sets_on, OnSide}
 use Rattle.net.specs.declared.Net.{Net}
-use Rattle.net.specs.declared.Side.{Side}
-use Rattle.net.specs.declared.Side.TheVariants.{Input, Output}
+use Rattle.std.specs.Prelude.{Ok}
+use Rattle.net.specs.declared.sides.Side.{Side}
+use Rattle.net.specs.declared.sides.Side.TheVariants.{Input, Output}
 use Rattle.net.proofs.ListLaws.{none_listed, listed_one, one_listed, listed-first, listed-later, head_or_later}
-use Rattle.netfile.specs.NetFile.{start_word, end_word, side_word, end_number, read_end, read_set_row, end_text, set_row_text, set_lines, sets_lines, side_lines, activity_lines, head_lines, net_lines, net_text}
-use Rattle.netfile.specs.declared.line.EndLine.TheVariants.{Activity}
-use Rattle.netfile.specs.declared.line.RowLine.TheVariants.{Set}
+use Rattle.netfile.specs.NetFile.{start_word, end_word, side_word, row_of_set, end_number, read_end, read_set_row, end_text, set_row_text, set_lines, sets_lines, side_lines, activity_lines, head_lines, net_lines, net_text}
 use Rattle.netfile.proofs.RowLaws.{end_plain, row_in, row_out, rest_set}
 use Rattle.netfile.proofs.TextLaws.{set_none, set_row}
 
@@ -54,22 +53,22 @@ word_free Output = refl
 -- ---- the start row and the end row
 
 module _ (a : ℕ) (h : a < activities) where
-  pub start_back : read_end start_word (end_text start_word a) ≡ Activity a
+  pub start_back : read_end start_word (end_text start_word a) ≡ Ok a
   start_back =
       end_plain start_word (end_text start_word a) start_word (print_number a) [] (fields_back start_word (print_number a) [] refl (number_free comma a (omega arith)) refl) refl refl
       ∙ ap end_number (parse_print highest a (omega arith) (omega arith))
 
-  pub end_back : read_end end_word (end_text end_word a) ≡ Activity a
+  pub end_back : read_end end_word (end_text end_word a) ≡ Ok a
   end_back =
       end_plain end_word (end_text end_word a) end_word (print_number a) [] (fields_back end_word (print_number a) [] refl (number_free comma a (omega arith)) refl) refl refl
       ∙ ap end_number (parse_print highest a (omega arith) (omega arith))
 
 -- ---- a set's row
 
-pub row_back : (side : Side) (a m : ℕ) → a < activities → 0 < m → m < 2 ^ 32 → read_set_row (set_row_text side a m) ≡ Set side a m
+pub row_back : (side : Side) (a m : ℕ) → a < activities → 0 < m → m < 2 ^ 32 → read_set_row (set_row_text side a m) ≡ Ok (row_of_set side a m)
 row_back side a m h k u = word side (fields_back (side_word side) (print_number a) (print_members m) (word_no_comma side) (number_free comma a (omega arith)) (members_free comma m (omega arith) (λ e. omega arith)))
   where
-    word : (t : Side) → split comma (set_row_text t a m) ≡ side_word t ∷ print_number a ∷ print_members m ∷ [] → read_set_row (set_row_text t a m) ≡ Set t a m
+    word : (t : Side) → split comma (set_row_text t a m) ≡ side_word t ∷ print_number a ∷ print_members m ∷ [] → read_set_row (set_row_text t a m) ≡ Ok (row_of_set t a m)
     word Input f =
         row_in (set_row_text Input a m) (side_word Input) (print_number a) (print_members m) f refl
         ∙ rest_set Input (print_number a) (print_members m) (members-filled (print_members m) m (parse_print_members m k u)) a m (parse_print highest a (omega arith) (omega arith)) (parse_print_members m k u)

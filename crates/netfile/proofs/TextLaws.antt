@@ -21,25 +21,25 @@ use Rattle.text.proofs.MemberListLaws.{members_short}
 use Rattle.net.specs.Sides.{sets_on}
 use Rattle.net.specs.Orderly.{orderly}
 use Rattle.net.specs.declared.Net.{Net}
-use Rattle.net.specs.declared.Side.{Side}
-use Rattle.net.specs.declared.Side.TheVariants.{Input, Output}
+use Rattle.net.specs.declared.sides.Side.{Side}
+use Rattle.net.specs.declared.sides.Side.TheVariants.{Input, Output}
 use Rattle.net.proofs.OrderlyLaws.{orderly_ends, ends_facts, orderly_at_most, sets_length}
 use Rattle.netfile.specs.Limits.{net_bytes}
 use Rattle.netfile.specs.NetFile.{net_header, start_word, end_word, side_word, set_row_text, set_lines, sets_lines, side_lines, activity_lines, head_lines, net_lines, net_text}
 
 -- ---- the first three lines
 
-abbrev to_start : List ℕ
+abbrev pub to_start : List ℕ
 to_start = net_header ++ (cr ∷ lf ∷ (start_word ++ (comma ∷ [])))
 
-abbrev to_end : List ℕ
+abbrev pub to_end : List ℕ
 to_end = comma ∷ cr ∷ lf ∷ (end_word ++ (comma ∷ []))
 
-pub head_bytes : (start end : ℕ) → unlines (head_lines start end) ≡ (((to_start ++ print_number start) ++ to_end) ++ print_number end) ++ (comma ∷ cr ∷ lf ∷ [])
+pub head_bytes : (start end : ℕ) → unlines (head_lines start end) ≡ to_start ++ (print_number start ++ (to_end ++ (print_number end ++ (comma ∷ cr ∷ lf ∷ []))))
 unfolding head_lines
 head_bytes start end = simp append_assoc
 
-pub head_width : (start end : ℕ) → length (unlines (head_lines start end)) ≡ 39 + length (print_number start) + length (print_number end)
+head_width : (start end : ℕ) → length (unlines (head_lines start end)) ≡ 39 + length (print_number start) + length (print_number end)
 head_width start end = rw (head_bytes start end) (simp length-append (omega arith))
 
 -- ---- a set's row
@@ -53,17 +53,17 @@ module _ (side : Side) (a m : ℕ) where
   unfolding set_lines
   set_row d = rw (ne_eqb m 0 d)
 
-  pub set_bytes : (m ≡ 0 → ⊥) → unlines (set_lines side a m) ≡ ((((side_word side ++ (comma ∷ [])) ++ print_number a) ++ (comma ∷ [])) ++ print_members m) ++ (cr ∷ lf ∷ [])
+  pub set_bytes : (m ≡ 0 → ⊥) → unlines (set_lines side a m) ≡ side_word side ++ ((comma ∷ []) ++ (print_number a ++ ((comma ∷ []) ++ (print_members m ++ (cr ∷ lf ∷ [])))))
   set_bytes d = rw (set_row d) (simp (append_assoc, append-nil))
 
-  pub set_width : (m ≡ 0 → ⊥) → length (unlines (set_lines side a m)) ≡ length (side_word side) + 1 + length (print_number a) + 1 + length (print_members m) + 2
+  set_width : (m ≡ 0 → ⊥) → length (unlines (set_lines side a m)) ≡ length (side_word side) + 1 + length (print_number a) + 1 + length (print_members m) + 2
   set_width d = rw (set_bytes d) (simp length-append (omega arith))
 
 word_short : (side : Side) → length (side_word side) ≤ 3
 word_short Input = omega arith
 word_short Output = omega arith
 
-pub set_short : (side : Side) (a m : ℕ) → a < activities → length (unlines (set_lines side a m)) ≤ 105
+set_short : (side : Side) (a m : ℕ) → a < activities → length (unlines (set_lines side a m)) ≤ 105
 set_short side a m h = elim (dec_eq m 0) [
   | yes e ↦ rw (set_none side a m e) (omega arith)
   | no d ↦ omega (arith, set_width side a m d, word_short side, number_below_100 a (omega arith), members_short m)
@@ -76,15 +76,11 @@ pub sets-step : (side : Side) (a i : ℕ) (l : List ℕ) → i < length l
 unfolding sets_lines
 sets-step side a i l h = rw (add-one, drop-cons l i 0 h) (unlines_append (set_lines side a (get_or l i 0)) (sets_lines side a (drop (suc i) l)))
 
-pub sets_width-step : (side : Side) (a i : ℕ) (l : List ℕ) → i < length l
-    → length (unlines (sets_lines side a (drop i l))) ≡ length (unlines (set_lines side a (get_or l i 0))) + length (unlines (sets_lines side a (drop (i + 1) l)))
-sets_width-step side a i l h = rw (sets-step side a i l h) (length-append (unlines (set_lines side a (get_or l i 0))) (unlines (sets_lines side a (drop (i + 1) l))))
-
 pub sets_none : (side : Side) (a i : ℕ) (l : List ℕ) → length l ≤ i → unlines (sets_lines side a (drop i l)) ≡ []
 unfolding sets_lines
 sets_none side a i l h = rw (drop_of_length-le l h)
 
-pub sets_short : (side : Side) (a : ℕ) (l : List ℕ) → a < activities → length (unlines (sets_lines side a l)) ≤ 105 * length l
+sets_short : (side : Side) (a : ℕ) (l : List ℕ) → a < activities → length (unlines (sets_lines side a l)) ≤ 105 * length l
 unfolding sets_lines
 sets_short side a [] h = omega arith
 sets_short side a (m ∷ ms) h =
@@ -105,11 +101,6 @@ activities-step net a h =
       unlines_append (side_lines net Output a) (activity_lines net (activities - (a + 1)) (a + 1)),
     )
 
-pub activities_width_step : (net : Net) (a : ℕ) → a < activities
-    → length (unlines (activity_lines net (activities - a) a))
-    ≡ length (unlines (side_lines net Input a)) + (length (unlines (side_lines net Output a)) + length (unlines (activity_lines net (activities - (a + 1)) (a + 1))))
-activities_width_step net a h = rw (activities-step net a h, length-append, length-append)
-
 pub activities_none : (net : Net) (a : ℕ) → activities ≤ a → unlines (activity_lines net (activities - a) a) ≡ []
 unfolding activity_lines
 activities_none net a h = let e : activities - a ≡ 0 = omega arith in rw e
@@ -119,9 +110,6 @@ activities_none net a h = let e : activities - a ≡ 0 = omega arith in rw e
 pub net_text_lem : (net : Net) → net_text net ≡ unlines (head_lines net.start net.end) ++ unlines (activity_lines net activities 0)
 unfolding net_text net_lines
 net_text_lem net = unlines_append (head_lines net.start net.end) (activity_lines net activities 0)
-
-pub net_width : (net : Net) → length (net_text net) ≡ 39 + length (print_number net.start) + length (print_number net.end) + length (unlines (activity_lines net activities 0))
-net_width net = rw (net_text_lem net, length-append, head_width net.start net.end)
 
 module _ (net : Net) (o : orderly net ≡ true) where
   side_short : (side : Side) (a : ℕ) → a < activities → length (unlines (side_lines net side a)) ≤ 1680
@@ -139,7 +127,7 @@ module _ (net : Net) (o : orderly net ≡ true) where
       )
       (omega (arith, side_short Input a (omega arith), side_short Output a (omega arith), activities_short n (a + 1) (omega arith)))
 
-  pub rows_short : length (unlines (activity_lines net activities 0)) ≤ 107520
+  rows_short : length (unlines (activity_lines net activities 0)) ≤ 107520
   rows_short = activities_short activities 0 (omega arith)
 
   pub net_short : length (net_text net) ≤ net_bytes

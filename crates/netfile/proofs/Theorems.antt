@@ -21,8 +21,8 @@ use Rattle.net.specs.Orderly.{ends_ok, orderly}
 use Rattle.net.specs.Fresh.{fresh_net}
 use Rattle.net.specs.Contained.{Contained}
 use Rattle.net.specs.declared.Net.{Net}
-use Rattle.net.specs.declared.Side.{Side}
-use Rattle.net.specs.declared.Side.TheVariants.{Input, Output}
+use Rattle.net.specs.declared.sides.Side.{Side}
+use Rattle.net.specs.declared.sides.Side.TheVariants.{Input, Output}
 use Rattle.net.proofs.ListLaws.{one_listed}
 use Rattle.net.proofs.SideLaws.{side_just_empty, set_is_mask}
 use Rattle.net.proofs.OrderlyLaws.{ends_facts, orderly_ends, orderly_sides, orderly_side, orderly_facts, facts_orderly}

@@ -6,3 +6,4 @@ pub mod Refusals
 pub mod Statements
 -- of the code alone
 pub mod Steps
+pub mod Sinks

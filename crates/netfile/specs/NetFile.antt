@@ -1,18 +1,15 @@
 -- Net files (01, "The tables" and "Refused, lowest number first"). A file is read by line, the first line with a refusal
 -- decides, and on a line 13 comes before 14 and both before the others. The rows are put into the fresh net of the start
 -- and the end one after the other.
-use Rattle.std.specs.Prelude.{ℕ, zero, suc, ◌+◌, ◌<◌, ◌≡◌, ◌&&◌, not, cond, List, [], ◌∷◌, ◌++◌, leb, eqb, length, drop}
+use Rattle.std.specs.Prelude.{ℕ, zero, suc, ◌+◌, ◌<◌, ◌≡◌, ◌&&◌, not, cond, List, [], ◌∷◌, ◌++◌, leb, eqb, length, drop, Option, Some, None, Result, Ok, Err, ⊤}
+use Rattle.std.specs.Option.{ok_or}
 use Rattle.obligations.specs.Limits.{activities}
 use Rattle.text.specs.Bytes.{same_bytes}
 use Rattle.text.specs.Lines.{lines, unlines}
 use Rattle.text.specs.Fields.{comma, split, join}
 use Rattle.text.specs.Decimal.{is_empty, parse_number, print_number}
 use Rattle.text.specs.Members.{highest, parse_members, print_members}
-use Rattle.text.specs.declared.decimal.Number.{Number}
-use Rattle.text.specs.declared.decimal.Number.TheVariants as number
-use Rattle.text.specs.declared.members.Members.{Members}
-use Rattle.text.specs.declared.members.Members.TheVariants as members
-use Rattle.net.specs.Refusals.{Says, accepted, refused, bad_ends, disorderly, outside_limits, line_form, number_form, text_too_long}
+use Rattle.net.specs.Refusals.{Says, accepted, refused, refusal_number, means, bad_ends, disorderly, outside_limits, line_form, text_too_long}
 use Rattle.net.specs.Sentences.{Sentence, whole}
 use Rattle.net.specs.Chains.{unless_by, unless}
 use Rattle.net.specs.Common.{not_orderly}
@@ -21,18 +18,14 @@ use Rattle.net.specs.Orderly.{orderly}
 use Rattle.net.specs.Fresh.{fresh_net}
 use Rattle.net.specs.Put.{put_says, put_gives}
 use Rattle.net.specs.declared.Net.{Net}
-use Rattle.net.specs.declared.Side.{Side}
-use Rattle.net.specs.declared.Side.TheVariants.{Input, Output}
+use Rattle.net.specs.declared.sides.Side.{Side}
+use Rattle.net.specs.declared.sides.Side.TheVariants.{Input, Output}
 use Rattle.netfile.specs.Limits.{net_bytes}
-use Rattle.netfile.specs.declared.line.EndLine.{EndLine}
-use Rattle.netfile.specs.declared.line.EndLine.TheVariants as end_line
-use Rattle.netfile.specs.declared.line.RowLine.{RowLine}
-use Rattle.netfile.specs.declared.line.RowLine.TheVariants as row_Line
-use Rattle.netfile.specs.declared.NetAnswer.{NetAnswer}
-use Rattle.netfile.specs.declared.NetAnswer.TheVariants as net-answer
-use Rattle.netfile.specs.declared.NetReading.{NetReading}
-use Rattle.netfile.specs.declared.WriteAnswer.{WriteAnswer}
-use Rattle.netfile.specs.declared.WriteAnswer.TheVariants as write-answer
+use Rattle.net.specs.declared.refusal.Refusal.{Refusal}
+use Rattle.net.specs.declared.refusal.Refusal.TheVariants.{LineForm, NumberForm}
+use Rattle.net.specs.declared.refusal.Refused.{Refused}
+use Rattle.net.specs.declared.Returned.{Returned}
+use Rattle.netfile.specs.declared.line.SetRow.{SetRow}
 
 -- ---- the fixed bytes
 
@@ -57,57 +50,64 @@ side_word Output = 111 ∷ 117 ∷ 116 ∷ []
 
 -- the start row or the end row, which has three fields: 13 unless its word is the one asked for and no byte follows its
 -- second comma, then 14 unless its number is an activity
-abbrev pub end_number : Number → EndLine
-end_number (number.Value a) = end_line.Activity a
-end_number number.Refused = end_line.Refused number_form
+abbrev pub end_number : Option ℕ → Result ℕ Refusal
+end_number number = ok_or number NumberForm
 
-abbrev pub end_fields : List ℕ → List (List ℕ) → EndLine
-end_fields word [] = end_line.Refused line_form
-end_fields word (w ∷ []) = end_line.Refused line_form
-end_fields word (w ∷ a ∷ []) = end_line.Refused line_form
-end_fields word (w ∷ a ∷ m ∷ []) = cond (same_bytes w word && is_empty m) (end_number (parse_number highest a)) (end_line.Refused line_form)
-end_fields word (w ∷ a ∷ m ∷ x ∷ fs) = end_line.Refused line_form
+abbrev pub end_fields : List ℕ → List (List ℕ) → Result ℕ Refusal
+end_fields word [] = Err LineForm
+end_fields word (w ∷ []) = Err LineForm
+end_fields word (w ∷ a ∷ []) = Err LineForm
+end_fields word (w ∷ a ∷ m ∷ []) = cond (same_bytes w word && is_empty m) (end_number (parse_number highest a)) (Err LineForm)
+end_fields word (w ∷ a ∷ m ∷ x ∷ fs) = Err LineForm
 
-unfoldable pub read_end : List ℕ → List ℕ → EndLine
+unfoldable pub read_end : List ℕ → List ℕ → Result ℕ Refusal
 read_end word line = end_fields word (split comma line)
 
 -- a row, which has three fields: 13 unless its word is a side's and a byte follows its second comma, then 14 unless its
 -- number is an activity and its members are well written
-abbrev pub row_numbers : Side → Number → Members → RowLine
-row_numbers side (number.Value a) (members.Set m) = row_Line.Set side a m
-row_numbers side (number.Value a) members.Refused = row_Line.Refused number_form
-row_numbers side number.Refused m = row_Line.Refused number_form
+abbrev pub row_of_set : Side → ℕ → ℕ → SetRow
+row_of_set side a m = record { side = side; activity = a; set = m }
 
-unfoldable pub row_rest : Side → List ℕ → List ℕ → RowLine
-row_rest side a m = cond (is_empty m) (row_Line.Refused line_form) (row_numbers side (parse_number highest a) (parse_members m))
+abbrev pub row_numbers : Side → Option ℕ → Option ℕ → Result SetRow Refusal
+row_numbers side (Some a) (Some m) = Ok (row_of_set side a m)
+row_numbers side (Some a) None = Err NumberForm
+row_numbers side None m = Err NumberForm
 
-abbrev pub row_fields : List (List ℕ) → RowLine
-row_fields [] = row_Line.Refused line_form
-row_fields (w ∷ []) = row_Line.Refused line_form
-row_fields (w ∷ a ∷ []) = row_Line.Refused line_form
-row_fields (w ∷ a ∷ m ∷ []) =
-    cond (same_bytes w (side_word Input)) (row_rest Input a m)
-    (cond (same_bytes w (side_word Output)) (row_rest Output a m) (row_Line.Refused line_form))
-row_fields (w ∷ a ∷ m ∷ x ∷ fs) = row_Line.Refused line_form
+unfoldable pub row_rest : Side → List ℕ → List ℕ → Result SetRow Refusal
+row_rest side a m = cond (is_empty m) (Err LineForm) (row_numbers side (parse_number highest a) (parse_members m))
 
-unfoldable pub read_set_row : List ℕ → RowLine
+-- the side that a word says
+unfoldable pub read_side : List ℕ → Result Side Refusal
+read_side w = cond (same_bytes w (side_word Input)) (Ok Input) (cond (same_bytes w (side_word Output)) (Ok Output) (Err LineForm))
+
+abbrev pub row_on : Result Side Refusal → List ℕ → List ℕ → Result SetRow Refusal
+row_on (Ok side) a m = row_rest side a m
+row_on (Err r) a m = Err r
+
+abbrev pub row_fields : List (List ℕ) → Result SetRow Refusal
+row_fields [] = Err LineForm
+row_fields (w ∷ []) = Err LineForm
+row_fields (w ∷ a ∷ []) = Err LineForm
+row_fields (w ∷ a ∷ m ∷ []) = row_on (read_side w) a m
+row_fields (w ∷ a ∷ m ∷ x ∷ fs) = Err LineForm
+
+unfoldable pub read_set_row : List ℕ → Result SetRow Refusal
 read_set_row line = row_fields (split comma line)
 
 -- what is said of a row's set for a net, and the net with it: 5 and 12 are those of put
-abbrev pub row_says : Net → RowLine → Says
-row_says net (row_Line.Set side a m) = put_says net side a m
-row_says net (row_Line.Refused n) = refused n 0
+abbrev pub row_says : Net → Result SetRow Refusal → Says
+row_says net (Ok r) = put_says net r.side r.activity r.set
+row_says net (Err r) = refused (refusal_number r) 0
 
-abbrev pub row_gives : Net → RowLine → Net
-row_gives net (row_Line.Set side a m) = put_gives net side a m
-row_gives net (row_Line.Refused n) = net
+abbrev pub row_gives : Net → Result SetRow Refusal → Net
+row_gives net (Ok r) = put_gives net r.side r.activity r.set
+row_gives net (Err r) = net
 
 -- ---- reading a file
 
 -- what each answer means
-abbrev pub net_means : NetAnswer → Says
-net_means net-answer.Read = accepted 0
-net_means (net-answer.Refused n p) = refused n p
+abbrev pub net_means : Result ⊤ Refused → Says
+net_means answer = means (λ _. 0) answer
 
 -- what is read: what the reader has to say and the net that it has to return
 pub record FileReading : Type 0 where
@@ -115,11 +115,14 @@ pub record FileReading : Type 0 where
   pub net : Net
 
 abbrev pub read_as : Net → FileReading
-read_as net = record { says = net_means net-answer.Read; net = net }
+read_as net = record { says = accepted 0; net = net }
 
 -- a refused reading returns the fresh net of 0 and 1
 abbrev pub refused_at : ℕ → ℕ → FileReading
-refused_at n line = record { says = net_means (net-answer.Refused n line); net = fresh_net 0 1 }
+refused_at n line = record { says = refused n line; net = fresh_net 0 1 }
+
+abbrev pub refused_with : Refused → FileReading
+refused_with r = refused_at (refusal_number r.refusal) r.place
 
 -- the rows on the lines from line n on, into a net
 unfoldable pub read_rows : ℕ → Net → List (List ℕ) → FileReading
@@ -129,18 +132,18 @@ read_rows n net (l ∷ ls) =
     (read_rows (n + 1) (row_gives net (read_set_row l)) ls)
 
 -- line 3, the end row: 1 if the start is the end
-abbrev pub after_end : ℕ → EndLine → List (List ℕ) → FileReading
-after_end start (end_line.Activity end) ls = unless_by refused_at (not (eqb start end)) bad_ends 3 (read_rows 4 (fresh_net start end) ls)
-after_end start (end_line.Refused n) ls = refused_at n 3
+abbrev pub after_end : ℕ → Result ℕ Refusal → List (List ℕ) → FileReading
+after_end start (Ok end) ls = unless_by refused_at (not (eqb start end)) bad_ends 3 (read_rows 4 (fresh_net start end) ls)
+after_end start (Err r) ls = refused_at (refusal_number r) 3
 
 unfoldable pub from_end : ℕ → List (List ℕ) → FileReading
 from_end start [] = refused_at line_form 3
 from_end start (l ∷ ls) = after_end start (read_end end_word l) ls
 
 -- line 2, the start row
-abbrev pub after_start : EndLine → List (List ℕ) → FileReading
-after_start (end_line.Activity start) ls = from_end start ls
-after_start (end_line.Refused n) ls = refused_at n 2
+abbrev pub after_start : Result ℕ Refusal → List (List ℕ) → FileReading
+after_start (Ok start) ls = from_end start ls
+after_start (Err r) ls = refused_at (refusal_number r) 2
 
 unfoldable pub from_start : List (List ℕ) → FileReading
 from_start [] = refused_at line_form 2
@@ -155,7 +158,7 @@ unfoldable pub read_net : List ℕ → FileReading
 read_net text = unless_by refused_at (leb (length text) net_bytes) outside_limits 0 (from_header (lines text))
 
 -- an answer and a net are what was to be read
-pub record Reads (d : FileReading) (r : NetReading) : Type 0 where
+pub record Reads (d : FileReading) (r : Returned ⊤) : Type 0 where
   pub says : net_means r.answer ≡ d.says
   pub gives : r.net ≡ d.net
 
@@ -196,9 +199,8 @@ unfoldable pub net_text : Net → List ℕ
 net_text net = unlines (net_lines net)
 
 -- what each answer means: an accepted writing's value is the text's length
-abbrev pub write_means : WriteAnswer → Says
-write_means (write-answer.Written n) = accepted n
-write_means (write-answer.Refused n p) = refused n p
+abbrev pub write_means : Result ℕ Refused → Says
+write_means answer = means (λ n. n) answer
 
 -- with a buffer of `room` bytes. 15: the text is longer than the buffer
 abbrev pub write_refusals : Net → ℕ → List Sentence
@@ -215,6 +217,6 @@ write_says net room =
 unfoldable pub write_gives : Net → List ℕ → List ℕ
 write_gives net buf = cond (write_says net (length buf)).ok (net_text net ++ drop (length (net_text net)) buf) buf
 
-pub record NetWritten (net : Net) (buf₀ : List ℕ) (r : WriteAnswer) (buf : List ℕ) : Type 0 where
+pub record NetWritten (net : Net) (buf₀ : List ℕ) (r : Result ℕ Refused) (buf : List ℕ) : Type 0 where
   pub says : write_means r ≡ write_says net (length buf₀)
   pub gives : buf ≡ write_gives net buf₀

@@ -12,8 +12,8 @@ use Rattle.net.specs.Limits.{sets}
 use Rattle.net.specs.Refusals.{bad_ends, outside_limits, misplaced_set, full_side, line_form, number_form}
 use Rattle.net.specs.Sentences.{Sentence, whole}
 use Rattle.net.specs.Lists.{AtMost}
-use Rattle.net.specs.declared.Side.{Side}
-use Rattle.net.specs.declared.Side.TheVariants.{Input, Output}
+use Rattle.net.specs.declared.sides.Side.{Side}
+use Rattle.net.specs.declared.sides.Side.TheVariants.{Input, Output}
 use Rattle.netfile.specs.Limits.{net_bytes}
 use Rattle.netfile.specs.NetFile.{net_header, start_word, end_word, side_word, end_text, set_row_text}
 

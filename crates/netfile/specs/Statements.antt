@@ -1,9 +1,10 @@
 -- What is proved of the definitions. The proofs are in proofs/Theorems.antt.
-use Rattle.std.specs.Prelude.{ℕ, ◌≤◌, ◌<◌, ◌≡◌, ◌⊎◌, ◌↔◌, length, take}
+use Rattle.std.specs.Prelude.{ℕ, ◌≤◌, ◌<◌, ◌≡◌, ◌⊎◌, ◌↔◌, length, take, Ok}
 use mathlib.Core.List.{List, ◌∷◌, Memᴰ}
 use Rattle.obligations.specs.Limits.{activities}
 use Rattle.text.specs.Lines.{lines}
 use Rattle.net.specs.Limits.{sets}
+use Rattle.net.specs.Refusals.{accepted, refused}
 use Rattle.net.specs.Sentences.{NoneHolds, AsListed, AsListedByLine}
 use Rattle.net.specs.Lists.{AtMost}
 use Rattle.net.specs.Sides.{masks_of, lengths_of, empty_at, uncounted, SameButCounts, OnSide, Masks}
@@ -11,32 +12,28 @@ use Rattle.net.specs.Orderly.{Orderly}
 use Rattle.net.specs.Fresh.{fresh_net}
 use Rattle.net.specs.Put.{side_says}
 use Rattle.net.specs.declared.Net.{Net}
-use Rattle.net.specs.declared.Side.{Side}
-use Rattle.net.specs.declared.Side.TheVariants.{Input, Output}
+use Rattle.net.specs.declared.sides.Side.{Side}
+use Rattle.net.specs.declared.sides.Side.TheVariants.{Input, Output}
 use Rattle.netfile.specs.Limits.{net_bytes}
-use Rattle.netfile.specs.NetFile.{net_header, start_word, end_word, read_end, read_set_row, row_says, net_means, read_as, read_net, end_text, net_text, write_means, write_refusals, write_says, write_gives}
+use Rattle.netfile.specs.NetFile.{net_header, start_word, end_word, row_of_set, read_end, read_set_row, row_says, read_as, read_net, end_text, net_text, write_refusals, write_says, write_gives}
 use Rattle.netfile.specs.Refusals.{IsEnd, IsSetRow, net_refusals}
-use Rattle.netfile.specs.declared.line.EndLine.TheVariants.{Activity}
-use Rattle.netfile.specs.declared.line.RowLine.TheVariants.{Set}
-use Rattle.netfile.specs.declared.NetAnswer.TheVariants.{Read, Refused}
-use Rattle.netfile.specs.declared.WriteAnswer.TheVariants as write-answer
 
 -- ---- the refusals: each call is refused exactly as its sentences are listed, and else accepted
 
 abbrev pub NetListed : Type 0
-NetListed = (text : List ℕ) → AsListedByLine (λ n p. net_means (Refused n p)) (net_refusals text) (read_net text).says
+NetListed = (text : List ℕ) → AsListedByLine refused (net_refusals text) (read_net text).says
 
 abbrev pub WriteListed : Type 0
-WriteListed = (net : Net) (room : ℕ) → AsListed (λ n p. write_means (write-answer.Refused n p)) (write_refusals net room) (write_says net room)
+WriteListed = (net : Net) (room : ℕ) → AsListed refused (write_refusals net room) (write_says net room)
 
 -- the writer is accepted exactly if no refusal holds, with the text's length
 abbrev pub WriteSaid : Type 0
 WriteSaid =
-    (net : Net) (room n : ℕ) → (write_says net room ≡ write_means (write-answer.Written n)) ↔ (NoneHolds (write_refusals net room) × (n ≡ length (net_text net)))
+    (net : Net) (room n : ℕ) → (write_says net room ≡ accepted n) ↔ (NoneHolds (write_refusals net room) × (n ≡ length (net_text net)))
 
 -- a refused reading returns the fresh net of 0 and 1
 abbrev pub RefusedFresh : Type 0
-RefusedFresh = (text : List ℕ) (number line : ℕ) → (read_net text).says ≡ net_means (Refused number line) → (read_net text).net ≡ fresh_net 0 1
+RefusedFresh = (text : List ℕ) (number line : ℕ) → (read_net text).says ≡ refused number line → (read_net text).net ≡ fresh_net 0 1
 
 -- ---- what is read
 
@@ -44,9 +41,9 @@ RefusedFresh = (text : List ℕ) (number line : ℕ) → (read_net text).says �
 abbrev pub LinesRead : Type 0
 LinesRead =
     (line : List ℕ)
-    → ((a : ℕ) → (read_end start_word line ≡ Activity a) ↔ IsEnd start_word a line)
-    × ((a : ℕ) → (read_end end_word line ≡ Activity a) ↔ IsEnd end_word a line)
-    × ((side : Side) (a m : ℕ) → (read_set_row line ≡ Set side a m) ↔ IsSetRow side a m line)
+    → ((a : ℕ) → (read_end start_word line ≡ Ok a) ↔ IsEnd start_word a line)
+    × ((a : ℕ) → (read_end end_word line ≡ Ok a) ↔ IsEnd end_word a line)
+    × ((side : Side) (a m : ℕ) → (read_set_row line ≡ Ok (row_of_set side a m)) ↔ IsSetRow side a m line)
 
 -- one of the lines is the row of m on activity a's side
 pub record HasRow (ls : List (List ℕ)) (side : Side) (a m : ℕ) : Type 0 where
@@ -70,7 +67,7 @@ pub record Readable (text : List ℕ) : Type 0 where
   pub at_most : (side : Side) (a : ℕ) → AtMost sets (HasRow rows side a)
 
 abbrev pub NetAccepted : Type 0
-NetAccepted = (text : List ℕ) → ((read_net text).says ≡ net_means Read) ↔ Readable text
+NetAccepted = (text : List ℕ) → ((read_net text).says ≡ accepted 0) ↔ Readable text
 
 -- a net is what the lines of a text say: its start and its end are those of the second and the third line, and a side holds
 -- exactly the sets of its rows, but for the two sides that hold the empty set
@@ -80,7 +77,7 @@ pub record SaidBy (text : List ℕ) (net : Net) : Type 0 where
   pub sets_read : (side : Side) (a m : ℕ) → OnSide net side a m ↔ (((a ≡ empty_at net side) × (m ≡ 0)) ⊎ HasRow rows side a m)
 
 abbrev pub ReadSaid : Type 0
-ReadSaid = (text : List ℕ) → (read_net text).says ≡ net_means Read → SaidBy text (read_net text).net
+ReadSaid = (text : List ℕ) → (read_net text).says ≡ accepted 0 → SaidBy text (read_net text).net
 
 -- two texts within the limit have the same first three lines, and each further line of one is one of the other: in any order,
 -- and any number of times
@@ -99,7 +96,7 @@ pub record SameRows (text other : List ℕ) : Type 0 where
 -- both are accepted or both are refused, and the nets are equal, word for word
 abbrev pub SameRowsSameNet : Type 0
 SameRowsSameNet =
-    (text other : List ℕ) → SameRows text other → (((read_net text).says ≡ net_means Read) ↔ ((read_net other).says ≡ net_means Read)) × ((read_net text).net ≡ (read_net other).net)
+    (text other : List ℕ) → SameRows text other → (((read_net text).says ≡ accepted 0) ↔ ((read_net other).says ≡ accepted 0)) × ((read_net text).net ≡ (read_net other).net)
 
 -- whatever is read is orderly
 abbrev pub ReadOrderly : Type 0
@@ -129,7 +126,7 @@ RoundTripSame = (net : Net) → Orderly net → Masks net → uncounted net ≡ 
 -- with counts 0
 abbrev pub WrittenRead : Type 0
 WrittenRead =
-    (net : Net) (buf : List ℕ) (n : ℕ) → Masks net → write_says net (length buf) ≡ write_means (write-answer.Written n)
+    (net : Net) (buf : List ℕ) (n : ℕ) → Masks net → write_says net (length buf) ≡ accepted n
     → read_net (take n (write_gives net buf)) ≡ read_as (uncounted net)
 
 -- the writer passes over the counts of orderly records
@@ -140,4 +137,4 @@ WritePassesOver =
 
 -- what was read and accepted, written and read again, is the same
 abbrev pub ReadAgain : Type 0
-ReadAgain = (text : List ℕ) → (read_net text).says ≡ net_means Read → read_net (net_text (read_net text).net) ≡ read_net text
+ReadAgain = (text : List ℕ) → (read_net text).says ≡ accepted 0 → read_net (net_text (read_net text).net) ≡ read_net text

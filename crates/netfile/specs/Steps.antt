@@ -1,23 +1,28 @@
--- What the steps of reading and writing leave: definitions of which only contracts of private functions speak.
-use Rattle.std.specs.Prelude.{ℕ, ◌<◌, ◌≡◌, cond}
-use Rattle.obligations.specs.Limits.{activities}
-use Rattle.net.specs.Refusals.{Says}
+-- What the steps of reading leave: definitions of which only contracts of private functions speak.
+use Rattle.std.specs.Prelude.{ℕ, ◌≤◌, ◌≡◌, true, List, Result, Ok, Err, is_ok, IfErr, ⊤, length}
+use Rattle.text.specs.Lines.{lines}
+use Rattle.net.specs.Refusals.{refusal_number, refused_at}
+use Rattle.net.specs.Orderly.{ends_ok}
+use Rattle.net.specs.Fresh.{fresh_net}
 use Rattle.net.specs.declared.Net.{Net}
-use Rattle.net.specs.declared.Side.{Side}
-use Rattle.netfile.specs.NetFile.{row_says, row_gives}
-use Rattle.netfile.specs.declared.line.RowLine.{RowLine}
-use Rattle.netfile.specs.declared.line.RowLine.TheVariants.{Set}
-use Rattle.netfile.specs.declared.read.RowPut.{RowPut}
-use Rattle.netfile.specs.declared.read.RowPut.TheVariants.{Put, Refused}
+use Rattle.net.specs.declared.refusal.Refusal.{Refusal}
+use Rattle.net.specs.declared.refusal.Refused.{Refused}
+use Rattle.netfile.specs.NetFile.{row_says, row_gives, read_rows, from_start}
+use Rattle.netfile.specs.declared.line.SetRow.{SetRow}
 
--- a row's set is of an activity
-abbrev pub OfActivity : RowLine → Type 0
-OfActivity row = (side : Side) (a m : ℕ) → row ≡ Set side a m → a < activities
+-- what line n answers, with its number where it is refused
+abbrev pub on_line : {T : Type 0} → ℕ → Result T Refusal → Result T Refused
+on_line n (Ok v) = Ok v
+on_line n (Err r) = Err (refused_at r n)
 
-abbrev pub row_put : Says → RowPut
-row_put s = cond s.ok Put (Refused s.refusal)
+-- a start and an end were read from line 2 on, and the text of the rows is left
+pub record EndsRead (text : List ℕ) (start end : ℕ) (rows : List ℕ) : Type 0 where
+  pub ends : ends_ok start end ≡ true
+  pub short : length rows ≤ length text
+  pub left : read_rows 4 (fresh_net start end) (lines rows) ≡ from_start (lines text)
 
--- a row was put into a net
-pub record PutRow (net : Net) (row : RowLine) (r : RowPut) (net' : Net) : Type 0 where
-  pub says : r ≡ row_put (row_says net row)
+-- what was read of a row was put into a net
+pub record PutRow (net : Net) (row : Result SetRow Refusal) (r : Result ⊤ Refusal) (net' : Net) : Type 0 where
+  pub put : is_ok r ≡ (row_says net row).ok
+  pub refusal : IfErr r (λ n. refusal_number n ≡ (row_says net row).refusal)
   pub gives : net' ≡ row_gives net row

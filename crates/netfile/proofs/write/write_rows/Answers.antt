@@ -1,54 +1,50 @@
--- `write_rows` meets its contract. The loop's invariant: the rows of the activities left, stored, give the buffer with all rows stored. Assumes nothing.
-use Prim.Native.Nat.{◌+◌, ◌-◌}
-use mathlib.Core.Path.{refl}
-use mathlib.Core.List.{◌++◌}
+-- `write_rows` meets its contract. The loop's invariant: the rows of the activities left, once taken, are all rows. Assumes nothing.
+use Rattle.std.proofs.Common.{refl, ap, ◌+◌, ◌-◌, ◌++◌}
 use borrow.Author.Rules.{rules}
 use Rattle.obligations.specs.Limits.{activities}
 use Rattle.text.specs.Lines.{unlines}
-use Rattle.text.proofs.StoreLaws.{storing_room, storing_more, storing_end}
-use Rattle.net.specs.declared.Side.TheVariants.{Input, Output}
-use Rattle.net.proofs.OrderlyLaws.{orderly_arrays}
-use Rattle.netfile.specs.NetFile.{side_lines, activity_lines}
+use Rattle.net.specs.declared.sides.Side.TheVariants.{Input, Output}
+use Rattle.net.proofs.OrderlyLaws.{orderly_at_most}
+use Rattle.netfile.specs.NetFile.{sets_lines, side_lines, activity_lines}
+use Rattle.netfile.proofs.SinkLaws.{left_start, left_room, left_more, left_end}
 use Rattle.netfile.proofs.TextLaws.{activities-step, activities_none}
 use Rattle.netfile.proofs.write.write_rows.Goals as goal
 
-pub write_side-p-requires : goal.write_side-p-requires
-write_side-p-requires c =
-    let a = c.args in
-    let net = a.net in
-    let l = c.loop-a in
-    let f = orderly_arrays net c.requires.0 Input in
-    record {
-      masks_len = (f.masks_long, f.lengths_long);
-      a_lt_activities = (search rules, f.at_most l.a (search rules));
-      a_in_bounds = storing_room a.out.now a.at (unlines (activity_lines net activities 0)) l.out l.p (unlines (activity_lines net (activities - l.a) l.a)) l.invariant.1 (unlines (side_lines net Input l.a)) (unlines (side_lines net Output l.a) ++ unlines (activity_lines net (activities - (l.a + 1)) (l.a + 1))) (activities-step net l.a (search rules));
-    }
+pub loop-a-init : goal.loop-a-init
+loop-a-init g c =
+    let net = c.args.net.now in
+    left_start g.met.S.Sink.laws c.args.out.now (unlines (activity_lines net activities 0)) (unlines (activity_lines net activities 0)) c.requires.room refl
 
-pub write_side-p-requires-in-loop-a : goal.write_side-p-requires-in-loop-a
-write_side-p-requires-in-loop-a c =
-    let a = c.args in
-    let net = a.net in
-    let l = c.loop-a in
-    let f = orderly_arrays net c.requires.0 Output in
-    let w = c.write_side-p in
-    record {
-      masks_len = (f.masks_long, f.lengths_long);
-      a_lt_activities = (search rules, f.at_most l.a (search rules));
-      a_in_bounds = storing_room a.out.now a.at (unlines (activity_lines net activities 0)) w.new.out w.result (unlines (side_lines net Output l.a) ++ unlines (activity_lines net (activities - (l.a + 1)) (l.a + 1))) (storing_more a.out.now a.at (unlines (activity_lines net activities 0)) l.out l.p (unlines (activity_lines net (activities - l.a) l.a)) l.invariant.1 (unlines (side_lines net Input l.a)) (unlines (side_lines net Output l.a) ++ unlines (activity_lines net (activities - (l.a + 1)) (l.a + 1))) w.new.out w.result (activities-step net l.a (search rules)) w.ensures) (unlines (side_lines net Output l.a)) (unlines (activity_lines net (activities - (l.a + 1)) (l.a + 1))) refl;
-    }
+pub sets-requires-clause-at_most : goal.sets-requires-clause-at_most
+sets-requires-clause-at_most g c = orderly_at_most c.args.net.now c.requires.orderly Input c.loop-a.a (search rules)
+
+pub write_sets-requires : goal.write_sets-requires
+write_sets-requires g c =
+    let net = c.args.net.now in
+    let b = c.loop-a.a in
+    left_room g.met.S.Sink.laws c.loop-a.invariant (unlines (side_lines net Input b)) (unlines (side_lines net Output b) ++ unlines (activity_lines net (activities - (b + 1)) (b + 1)))
+    (ap (λ ms. unlines (sets_lines Input b ms)) c.sets.ensures) (activities-step net b (search rules))
+
+pub sets-requires-in-loop-a-clause-at_most : goal.sets-requires-in-loop-a-clause-at_most
+sets-requires-in-loop-a-clause-at_most g c = orderly_at_most c.args.net.now c.requires.orderly Output c.loop-a.a (search rules)
+
+pub write_sets-requires-in-loop-a : goal.write_sets-requires-in-loop-a
+write_sets-requires-in-loop-a g c =
+    let net = c.args.net.now in
+    let b = c.loop-a.a in
+    let k = g.met.S.Sink.laws in
+    let l = left_more k c.loop-a.invariant (unlines (side_lines net Input b)) (unlines (side_lines net Output b) ++ unlines (activity_lines net (activities - (b + 1)) (b + 1)))
+    (ap (λ ms. unlines (sets_lines Input b ms)) c.sets.ensures) (activities-step net b (search rules)) c.write_sets.ensures in
+    left_room k l (unlines (side_lines net Output b)) (unlines (activity_lines net (activities - (b + 1)) (b + 1))) (ap (λ ms. unlines (sets_lines Output b ms)) c.sets-in-loop-a.ensures) refl
 
 pub loop-a-preserved : goal.loop-a-preserved
-loop-a-preserved c =
-    let a = c.args in
-    let net = a.net in
-    let l = c.loop-a in
-    let w = c.write_side-p in
-    let v = c.write_side-p-in-loop-a in
-    (search rules, storing_more a.out.now a.at (unlines (activity_lines net activities 0)) w.new.out w.result (unlines (side_lines net Output l.a) ++ unlines (activity_lines net (activities - (l.a + 1)) (l.a + 1))) (storing_more a.out.now a.at (unlines (activity_lines net activities 0)) l.out l.p (unlines (activity_lines net (activities - l.a) l.a)) l.invariant.1 (unlines (side_lines net Input l.a)) (unlines (side_lines net Output l.a) ++ unlines (activity_lines net (activities - (l.a + 1)) (l.a + 1))) w.new.out w.result (activities-step net l.a (search rules)) w.ensures) (unlines (side_lines net Output l.a)) (unlines (activity_lines net (activities - (l.a + 1)) (l.a + 1))) v.new.out v.result refl v.ensures)
+loop-a-preserved g c =
+    let net = c.args.net.now in
+    let b = c.loop-a.a in
+    let k = g.met.S.Sink.laws in
+    let l = left_more k c.loop-a.invariant (unlines (side_lines net Input b)) (unlines (side_lines net Output b) ++ unlines (activity_lines net (activities - (b + 1)) (b + 1)))
+    (ap (λ ms. unlines (sets_lines Input b ms)) c.sets.ensures) (activities-step net b (search rules)) c.write_sets.ensures in
+    left_more k l (unlines (side_lines net Output b)) (unlines (activity_lines net (activities - (b + 1)) (b + 1))) (ap (λ ms. unlines (sets_lines Output b ms)) c.sets-in-loop-a.ensures) refl c.write_sets-in-loop-a.ensures
 
 pub returns : goal.returns
-returns c =
-    let a = c.args in
-    let net = a.net in
-    let l = c.loop-a in
-    storing_end a.out.now a.at (unlines (activity_lines net activities 0)) l.out l.p (unlines (activity_lines net (activities - l.a) l.a)) l.invariant.1 (activities_none net l.a (search rules))
+returns g c = left_end g.met.S.Sink.laws c.loop-a.invariant (activities_none c.args.net.now c.loop-a.a (search rules))

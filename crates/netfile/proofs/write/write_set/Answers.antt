@@ -1,46 +1,87 @@
--- `write_set` meets its contract: no byte for the empty set, else five pieces, one after the other. Assumes nothing.
-use mathlib.Core.Path.{ap}
-use mathlib.Core.List.{[], ◌∷◌}
-use native.Mathlib.Omega.{arith}
-use lib.ListN.{length-append}
-use Rattle.text.specs.Lines.{unlines}
+-- `write_set` meets its contract: no byte for the empty set, else six pieces, one after the other. Assumes nothing.
+use Rattle.std.proofs.Common.{refl, sym, ap, [], ◌∷◌, ◌++◌}
+use mathlib.Core.List.{append-nil}
+use Rattle.text.specs.Lines.{unlines, cr, lf}
 use Rattle.text.specs.Fields.{comma}
-use Rattle.text.proofs.WriteLaws.{wrote_nothing, wrote_append}
+use Rattle.text.specs.Decimal.{print_number}
+use Rattle.text.specs.Members.{print_members}
 use Rattle.netfile.specs.NetFile.{side_word, set_lines}
-use Rattle.netfile.proofs.TextLaws.{set_none, set_bytes, set_width}
+use Rattle.netfile.proofs.SinkLaws.{left_start, left_room, left_more, left_end}
+use Rattle.netfile.proofs.TextLaws.{set_none, set_bytes}
 use Rattle.netfile.proofs.write.write_set.Goals as goal
 
 pub returns-then-m-eq0 : goal.returns-then-m-eq0
-returns-then-m-eq0 c =
-    let s = c.args in
-    wrote_nothing s.out.now s.at (unlines (set_lines s.side s.a s.m)) (ap unlines (set_none s.side s.a s.m c.if-m-eq0.true))
+returns-then-m-eq0 g c =
+    let a = c.args in
+    let k = g.met.S.Sink.laws in
+    left_end k (left_start k a.out.now (unlines (set_lines a.side a.a a.m)) (unlines (set_lines a.side a.a a.m)) c.requires refl) (ap unlines (set_none a.side a.a a.m c.if-m-eq0.true))
 
-pub write_word-n-requires : goal.write_word-n-requires
-write_word-n-requires c =
-    let s = c.args in
-    omega (arith, set_width s.side s.a s.m c.if-m-eq0.false, length-append (side_word s.side) (comma ∷ []))
+pub bytes-requires : goal.bytes-requires
+bytes-requires g c =
+    let a = c.args in
+    let k = g.met.S.Sink.laws in
+    let l0 = left_start k a.out.now (unlines (set_lines a.side a.a a.m)) (side_word a.side ++ ((comma ∷ []) ++ (print_number a.a ++ ((comma ∷ []) ++ (print_members a.m ++ (cr ∷ lf ∷ [])))))) c.requires (set_bytes a.side a.a a.m c.if-m-eq0.false) in
+    left_room k l0 (side_word a.side) ((comma ∷ []) ++ (print_number a.a ++ ((comma ∷ []) ++ (print_members a.m ++ (cr ∷ lf ∷ []))))) c.word.ensures refl
 
-pub write_number-c-requires : goal.write_number-c-requires
-write_number-c-requires c =
-    let s = c.args in
-    omega (arith, set_width s.side s.a s.m c.if-m-eq0.false, length-append (side_word s.side) (comma ∷ []))
+pub bytes-requires-2 : goal.bytes-requires-2
+bytes-requires-2 g c =
+    let a = c.args in
+    let k = g.met.S.Sink.laws in
+    let l0 = left_start k a.out.now (unlines (set_lines a.side a.a a.m)) (side_word a.side ++ ((comma ∷ []) ++ (print_number a.a ++ ((comma ∷ []) ++ (print_members a.m ++ (cr ∷ lf ∷ [])))))) c.requires (set_bytes a.side a.a a.m c.if-m-eq0.false) in
+    let l1 = left_more k l0 (side_word a.side) ((comma ∷ []) ++ (print_number a.a ++ ((comma ∷ []) ++ (print_members a.m ++ (cr ∷ lf ∷ []))))) c.word.ensures refl c.bytes.ensures in
+    left_room k l1 (comma ∷ []) (print_number a.a ++ ((comma ∷ []) ++ (print_members a.m ++ (cr ∷ lf ∷ [])))) refl refl
 
-pub write_bytes-s-requires : goal.write_bytes-s-requires
-write_bytes-s-requires c =
-    let s = c.args in
-    omega (arith, set_width s.side s.a s.m c.if-m-eq0.false, length-append (side_word s.side) (comma ∷ []))
+pub number-requires : goal.number-requires
+number-requires g c =
+    let a = c.args in
+    let k = g.met.S.Sink.laws in
+    let l0 = left_start k a.out.now (unlines (set_lines a.side a.a a.m)) (side_word a.side ++ ((comma ∷ []) ++ (print_number a.a ++ ((comma ∷ []) ++ (print_members a.m ++ (cr ∷ lf ∷ [])))))) c.requires (set_bytes a.side a.a a.m c.if-m-eq0.false) in
+    let l1 = left_more k l0 (side_word a.side) ((comma ∷ []) ++ (print_number a.a ++ ((comma ∷ []) ++ (print_members a.m ++ (cr ∷ lf ∷ []))))) c.word.ensures refl c.bytes.ensures in
+    let l2 = left_more k l1 (comma ∷ []) (print_number a.a ++ ((comma ∷ []) ++ (print_members a.m ++ (cr ∷ lf ∷ [])))) refl refl c.bytes-2.ensures in
+    left_room k l2 (print_number a.a) ((comma ∷ []) ++ (print_members a.m ++ (cr ∷ lf ∷ []))) (ap print_number c.from.ensures) refl
 
-pub write_members-e-requires : goal.write_members-e-requires
-write_members-e-requires c =
-    let s = c.args in
-    omega (arith, set_width s.side s.a s.m c.if-m-eq0.false, length-append (side_word s.side) (comma ∷ []))
+pub bytes-requires-3 : goal.bytes-requires-3
+bytes-requires-3 g c =
+    let a = c.args in
+    let k = g.met.S.Sink.laws in
+    let l0 = left_start k a.out.now (unlines (set_lines a.side a.a a.m)) (side_word a.side ++ ((comma ∷ []) ++ (print_number a.a ++ ((comma ∷ []) ++ (print_members a.m ++ (cr ∷ lf ∷ [])))))) c.requires (set_bytes a.side a.a a.m c.if-m-eq0.false) in
+    let l1 = left_more k l0 (side_word a.side) ((comma ∷ []) ++ (print_number a.a ++ ((comma ∷ []) ++ (print_members a.m ++ (cr ∷ lf ∷ []))))) c.word.ensures refl c.bytes.ensures in
+    let l2 = left_more k l1 (comma ∷ []) (print_number a.a ++ ((comma ∷ []) ++ (print_members a.m ++ (cr ∷ lf ∷ [])))) refl refl c.bytes-2.ensures in
+    let l3 = left_more k l2 (print_number a.a) ((comma ∷ []) ++ (print_members a.m ++ (cr ∷ lf ∷ []))) (ap print_number c.from.ensures) refl c.number.ensures in
+    left_room k l3 (comma ∷ []) (print_members a.m ++ (cr ∷ lf ∷ [])) refl refl
 
-pub write_bytes-requires : goal.write_bytes-requires
-write_bytes-requires c =
-    let s = c.args in
-    omega (arith, set_width s.side s.a s.m c.if-m-eq0.false, length-append (side_word s.side) (comma ∷ []))
+pub members-requires : goal.members-requires
+members-requires g c =
+    let a = c.args in
+    let k = g.met.S.Sink.laws in
+    let l0 = left_start k a.out.now (unlines (set_lines a.side a.a a.m)) (side_word a.side ++ ((comma ∷ []) ++ (print_number a.a ++ ((comma ∷ []) ++ (print_members a.m ++ (cr ∷ lf ∷ [])))))) c.requires (set_bytes a.side a.a a.m c.if-m-eq0.false) in
+    let l1 = left_more k l0 (side_word a.side) ((comma ∷ []) ++ (print_number a.a ++ ((comma ∷ []) ++ (print_members a.m ++ (cr ∷ lf ∷ []))))) c.word.ensures refl c.bytes.ensures in
+    let l2 = left_more k l1 (comma ∷ []) (print_number a.a ++ ((comma ∷ []) ++ (print_members a.m ++ (cr ∷ lf ∷ [])))) refl refl c.bytes-2.ensures in
+    let l3 = left_more k l2 (print_number a.a) ((comma ∷ []) ++ (print_members a.m ++ (cr ∷ lf ∷ []))) (ap print_number c.from.ensures) refl c.number.ensures in
+    let l4 = left_more k l3 (comma ∷ []) (print_members a.m ++ (cr ∷ lf ∷ [])) refl refl c.bytes-3.ensures in
+    left_room k l4 (print_members a.m) (cr ∷ lf ∷ []) refl refl
+
+pub bytes-requires-4 : goal.bytes-requires-4
+bytes-requires-4 g c =
+    let a = c.args in
+    let k = g.met.S.Sink.laws in
+    let l0 = left_start k a.out.now (unlines (set_lines a.side a.a a.m)) (side_word a.side ++ ((comma ∷ []) ++ (print_number a.a ++ ((comma ∷ []) ++ (print_members a.m ++ (cr ∷ lf ∷ [])))))) c.requires (set_bytes a.side a.a a.m c.if-m-eq0.false) in
+    let l1 = left_more k l0 (side_word a.side) ((comma ∷ []) ++ (print_number a.a ++ ((comma ∷ []) ++ (print_members a.m ++ (cr ∷ lf ∷ []))))) c.word.ensures refl c.bytes.ensures in
+    let l2 = left_more k l1 (comma ∷ []) (print_number a.a ++ ((comma ∷ []) ++ (print_members a.m ++ (cr ∷ lf ∷ [])))) refl refl c.bytes-2.ensures in
+    let l3 = left_more k l2 (print_number a.a) ((comma ∷ []) ++ (print_members a.m ++ (cr ∷ lf ∷ []))) (ap print_number c.from.ensures) refl c.number.ensures in
+    let l4 = left_more k l3 (comma ∷ []) (print_members a.m ++ (cr ∷ lf ∷ [])) refl refl c.bytes-3.ensures in
+    let l5 = left_more k l4 (print_members a.m) (cr ∷ lf ∷ []) refl refl c.members.ensures in
+    left_room k l5 (cr ∷ lf ∷ []) [] refl refl
 
 pub returns : goal.returns
-returns c =
-    let s = c.args in
-    rw (set_bytes s.side s.a s.m c.if-m-eq0.false) (wrote_append (wrote_append (wrote_append (wrote_append c.write_word-n.ensures c.write_number-c.ensures) c.write_bytes-s.ensures) c.write_members-e.ensures) c.write_bytes.ensures)
+returns g c =
+    let a = c.args in
+    let k = g.met.S.Sink.laws in
+    let l0 = left_start k a.out.now (unlines (set_lines a.side a.a a.m)) (side_word a.side ++ ((comma ∷ []) ++ (print_number a.a ++ ((comma ∷ []) ++ (print_members a.m ++ (cr ∷ lf ∷ [])))))) c.requires (set_bytes a.side a.a a.m c.if-m-eq0.false) in
+    let l1 = left_more k l0 (side_word a.side) ((comma ∷ []) ++ (print_number a.a ++ ((comma ∷ []) ++ (print_members a.m ++ (cr ∷ lf ∷ []))))) c.word.ensures refl c.bytes.ensures in
+    let l2 = left_more k l1 (comma ∷ []) (print_number a.a ++ ((comma ∷ []) ++ (print_members a.m ++ (cr ∷ lf ∷ [])))) refl refl c.bytes-2.ensures in
+    let l3 = left_more k l2 (print_number a.a) ((comma ∷ []) ++ (print_members a.m ++ (cr ∷ lf ∷ []))) (ap print_number c.from.ensures) refl c.number.ensures in
+    let l4 = left_more k l3 (comma ∷ []) (print_members a.m ++ (cr ∷ lf ∷ [])) refl refl c.bytes-3.ensures in
+    let l5 = left_more k l4 (print_members a.m) (cr ∷ lf ∷ []) refl refl c.members.ensures in
+    let l6 = left_more k l5 (cr ∷ lf ∷ []) [] refl (sym (append-nil _)) c.bytes-4.ensures in
+    left_end k l6 refl
