@@ -9,7 +9,8 @@ use Rattle.std.specs.Prelude.{true, false, Ok, Err}
 use Rattle.obligations.specs.Limits.{positions}
 use Rattle.obligations.specs.Tests.{number, first_from, first_failing}
 use Rattle.obligations.specs.Sets.{bit, member, single, union, keep, members_from, members, size}
-use Rattle.obligations.specs.State.{places_of, inputs, outputs, all_due, lowered, raised, possible, taken, added, after, all_zero, total}
+use Rattle.obligations.specs.Places.{places_of}
+use Rattle.obligations.specs.State.{inputs, outputs, all_due, lowered, raised, possible, taken, added, after, all_zero, total}
 use Rattle.obligations.specs.Trace.{first_no_activity, ends_agree, shaped}
 use Rattle.obligations.specs.Sequence.{bindings, words, run, possible_at, first_impossible}
 use Rattle.obligations.specs.Examples.{fig4, trip}

@@ -6,7 +6,8 @@ use mathlib.Core.List.{List}
 use mathlib.Core.Logic.{◌↔◌}
 use native.Mathlib.Omega.{arith}
 use Rattle.obligations.specs.State.{total}
-use Rattle.obligations.specs.Sequence.{Binding, bindings, words}
+use Rattle.obligations.specs.Sequence.{bindings, words}
+use Rattle.obligations.specs.declared.sequence.Binding.{Binding}
 use Rattle.obligations.proofs.SequenceLaws.{bindings-words, held_at}
 use Rattle.net.specs.Refusals.{accepted, refused}
 use Rattle.net.specs.Sentences.{NoneHolds, AsListed}

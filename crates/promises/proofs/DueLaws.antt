@@ -14,7 +14,8 @@ use lib.Seq.{take_all}
 use Rattle.obligations.specs.Sets.{member}
 use Rattle.obligations.specs.Tests.{indicator}
 use Rattle.obligations.specs.State.{count, nothing}
-use Rattle.obligations.specs.Sequence.{Binding, at, ψ}
+use Rattle.obligations.specs.Sequence.{at, ψ}
+use Rattle.obligations.specs.declared.sequence.Binding.{Binding}
 use Rattle.obligations.proofs.BoolLaws.{and_left, and_right, and_both, true_or_false}
 use Rattle.obligations.proofs.StateLaws.{nothing-zero}
 use Rattle.obligations.proofs.CountLaws.{after-count, zero-count}

@@ -8,7 +8,8 @@ use mathlib.Core.List.{List, [], ◌∷◌, Memᴰ}
 use mathlib.Core.Logic.{◌↔◌, ◌⊎◌, inl, inr, ⊎_elim}
 use native.Mathlib.Omega.{arith}
 use Rattle.obligations.specs.State.{total}
-use Rattle.obligations.specs.Sequence.{Binding, WellFormed}
+use Rattle.obligations.specs.Sequence.{WellFormed}
+use Rattle.obligations.specs.declared.sequence.Binding.{Binding}
 use Rattle.net.specs.Refusals.{Says, accepted, refused}
 use Rattle.net.specs.Sides.{counts_on, count_of, OnSide}
 use Rattle.net.specs.Orderly.{Orderly}

@@ -7,7 +7,8 @@ use mathlib.Core.List.{List, Memᴰ}
 use lib.ListN.{length}
 use mathlib.Core.Logic.{◌⊎◌, inl, inr}
 use Rattle.obligations.specs.Sets.{member}
-use Rattle.obligations.specs.Sequence.{Binding, at}
+use Rattle.obligations.specs.Sequence.{at}
+use Rattle.obligations.specs.declared.sequence.Binding.{Binding}
 use Rattle.obligations.proofs.BoolLaws.{false-not-true}
 use Rattle.obligations.proofs.SetLaws.{member_none}
 use Rattle.net.specs.Sides.{empty_at, opposite, OnSide}

@@ -6,7 +6,7 @@ use mathlib.Core.Path.{◌≡◌, sym, ap, ◌∙◌}
 use mathlib.Core.Bool.{true}
 use mathlib.Core.List.{List, [], ◌∷◌, Memᴰ}
 use mathlib.Core.Logic.{◌↔◌, ◌⊎◌, inl, inr}
-use Rattle.obligations.specs.Sequence.{Binding}
+use Rattle.obligations.specs.declared.sequence.Binding.{Binding}
 use Rattle.net.specs.Refusals.{Says, accepted}
 use Rattle.net.specs.Sentences.{NoneHolds, IsGiven}
 use Rattle.net.specs.Orderly.{ends_ok}

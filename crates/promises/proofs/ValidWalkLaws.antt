@@ -10,7 +10,8 @@ use native.Mathlib.Decide.{ℕ_discrete as dec_eq}
 use native.Mathlib.Omega.{arith}
 use lib.ListN.{length}
 use Rattle.obligations.specs.Sets.{member}
-use Rattle.obligations.specs.Sequence.{Binding, at}
+use Rattle.obligations.specs.Sequence.{at}
+use Rattle.obligations.specs.declared.sequence.Binding.{Binding}
 use Rattle.obligations.proofs.SetLaws.{member-activity}
 use Rattle.obligations.proofs.MemberLaws.{some_member}
 use Rattle.net.specs.Sides.{opposite, OnSide}

@@ -6,7 +6,8 @@ use mathlib.Core.Bool.{true}
 use mathlib.Core.List.{List, Memᴰ}
 use mathlib.Core.Logic.{⊎_elim}
 use Rattle.obligations.specs.Limits.{activities}
-use Rattle.obligations.specs.Sequence.{Binding, WellFormed, at}
+use Rattle.obligations.specs.Sequence.{WellFormed, at}
+use Rattle.obligations.specs.declared.sequence.Binding.{Binding}
 use Rattle.net.specs.Sides.{OnSide}
 use Rattle.net.specs.Orderly.{ends_ok, Orderly}
 use Rattle.net.specs.Fresh.{fresh_net}

@@ -2,7 +2,8 @@
 -- that the call before it returned.
 use Rattle.std.specs.Prelude.{ℕ}
 use mathlib.Core.List.{List, [], ◌∷◌, Memᴰ}
-use Rattle.obligations.specs.Sequence.{Binding, bindings}
+use Rattle.obligations.specs.Sequence.{bindings}
+use Rattle.obligations.specs.declared.sequence.Binding.{Binding}
 use Rattle.net.specs.Refusals.{Says}
 use Rattle.net.specs.Sentences.{Sentence}
 use Rattle.net.specs.declared.Net.{Net}

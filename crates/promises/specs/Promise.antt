@@ -3,7 +3,7 @@
 use Rattle.std.specs.Prelude.{ℕ, ◌+◌, ◌≡◌, true, Ok, ◌↔◌}
 use mathlib.Core.List.{List, [], ◌∷◌, ◌++◌, Memᴰ}
 use Rattle.obligations.specs.State.{total}
-use Rattle.obligations.specs.Sequence.{Binding}
+use Rattle.obligations.specs.declared.sequence.Binding.{Binding}
 use Rattle.net.specs.Refusals.{Says, refused}
 use Rattle.net.specs.Sentences.{NoneHolds, IsGiven, AsListed}
 use Rattle.net.specs.Sides.{counts_on, count_of, net_size}
