@@ -1,24 +1,26 @@
--- Laws of answers: a line that is a row, what the buffer then holds, and an answer that is no row. Assumes nothing.
+-- Laws of answers: a line that is a row, and what is answered and what the buffer then holds. Assumes nothing.
 use Prim.Native.Nat.{ℕ, ◌+◌, ◌≤◌}
 use mathlib.Core.Path.{◌≡◌, refl, sym, ap, ◌∙◌}
 use mathlib.Core.Bool.{Bool, true, false, ◌&&◌, cond}
-use mathlib.Core.List.{List, [], ◌∷◌, ◌++◌, Memᴰ}
+use mathlib.Core.List.{List, [], ◌∷◌, Memᴰ}
 use native.Mathlib.Omega.{arith}
 use borrow.Author.Tests.{leb-true}
 use lib.Dec.{leb}
-use lib.ListN.{length, drop, length-map}
+use lib.ListN.{length, length-map}
 use Rattle.obligations.specs.Limits.{positions}
-use Rattle.obligations.proofs.BoolLaws.{and_left, and_right, false-not-true}
+use Rattle.obligations.proofs.BoolLaws.{and_left, and_right}
 use Rattle.net.specs.Refusals.{outside_limits, number_form}
 use Rattle.text.specs.Fields.{comma, split}
 use Rattle.text.specs.Decimal.{value, all_numbers, values}
 use Rattle.text.specs.Members.{highest}
 use Rattle.text.proofs.DecimalLaws.{number_most, values_most}
 use Rattle.logfile.specs.Limits.{log_rows, most_sessions}
-use Rattle.logfile.specs.LogFile.{RowReading, row, end, fault, is_sessions, entries, read_fields, read_parts, read_line, past, row_means, reading_says, reading_leaves, RowRead}
+use Rattle.logfile.specs.LogFile.{RowReading, row, end, fault, is_sessions, entries, read_fields, read_parts, read_line, row_means, RowRead}
 use Rattle.logfile.specs.Refusals.{row_text}
-use Rattle.logfile.specs.Row.{answer_of, is_row, TraceFilled, IsLogRow, second}
-use Rattle.logfile.specs.declared.RowAnswer.{RowAnswer}
+use Rattle.std.specs.Prelude.{Ok, Err, Some, None}
+use Rattle.net.specs.declared.refusal.Refused.{Refused}
+use Rattle.logfile.specs.Row.{fault_of, IsTrace, TraceFilled, RowOnLine}
+use Rattle.logfile.specs.declared.Row.{Row}
 use Rattle.logfile.proofs.PrintLaws.{sessions-number, row_printed}
 
 -- ---- a line that is a row
@@ -73,40 +75,21 @@ line-sessions r =
 pub line-entries : {n : ℕ} {l : List ℕ} {s : ℕ} {t : List ℕ} → LineRow n l s t → (k : ℕ) → Memᴰ k t → k ≤ highest
 line-entries r k m = values_most highest (entries r.trace) r.numbers k (rw r.trace_is at m)
 
--- it can be written to a buffer that is long enough for every row, and what is then there is its trace
-pub line-is_row : {n : ℕ} {l : List ℕ} {s : ℕ} {t : List ℕ} (room : ℕ) → LineRow n l s t → positions ≤ room → IsLogRow l room
-line-is_row room r h = record { sessions = r.first; trace = r.trace; fields = r.fields; is_trace = record { numbers = r.numbers; few = omega (arith, r.few) } }
+-- ---- what is answered
 
-pub line-filled : {n : ℕ} {l : List ℕ} {s : ℕ} {t : List ℕ} (out₀ out : List ℕ) → LineRow n l s t → TraceFilled (second (split comma l)) out₀ out → out ≡ reading_leaves (row s t) out₀
-line-filled {n} {l} {s} {t} out₀ out r f =
-    let g : out ≡ values (entries r.trace) ++ drop (length (entries r.trace)) out₀ = rw r.fields at f in
-    rw (r.trace_is, length-map (entries r.trace) value) g
+-- a refusal or "end" leaves the buffer
+pub read_fault : (x : RowReading) (r : Refused) (out : List ℕ) → x ≡ fault_of r → RowRead x out (Err r) out
+read_fault x r out e = rw e (record { says = refl; leaves = refl })
 
--- ---- answers
+pub read_end : (x : RowReading) (out : List ℕ) → x ≡ end → RowRead x out (Ok None) out
+read_end x out e = rw e (record { says = refl; leaves = refl })
 
-answer_says : (x : RowReading) → row_means (answer_of x) ≡ reading_says x
-answer_says (row s t) = refl
-answer_says end = refl
-answer_says (fault n p) = refl
+-- and a row is given with its trace at the front
+pub read_given : (x : RowReading) (n : ℕ) (l : List ℕ) (r : Row) (trace out₀ out : List ℕ) → x ≡ read_line n l → RowOnLine n l r trace → TraceFilled trace out₀ out → RowRead x out₀ (Ok (Some r)) out
+read_given x n l r trace out₀ out e w f =
+    let k : length (values (entries trace)) ≡ length (entries trace) = length-map (entries trace) value in
+    rw (e ∙ w.reads) (record { says = ap (λ (m : ℕ). row_means (Ok (Some (record { sessions = r.sessions; length = m })))) (sym w.long ∙ sym k); leaves = rw k f })
 
--- an answer that is no row leaves the buffer, and is the answer for every row from there on
-stays-leaves : (x : RowReading) (out : List ℕ) → is_row (answer_of x) ≡ false → out ≡ reading_leaves x out
-stays-leaves (row s t) out q = absurd (false-not-true q refl)
-stays-leaves end out q = refl
-stays-leaves (fault n p) out q = refl
-
-pub stays-past : (x r : RowReading) → is_row (answer_of x) ≡ false → past x r ≡ x
-stays-past (row s t) r q = absurd (false-not-true q refl)
-stays-past end r q = refl
-stays-past (fault n p) r q = refl
-
-pub row_given : (x : RowReading) → is_row (answer_of x) ≡ true → (s : ℕ) × (t : List ℕ) × (x ≡ row s t)
-row_given (row s t) q = (s, t, refl)
-row_given end q = absurd (false-not-true refl q)
-row_given (fault n p) q = absurd (false-not-true refl q)
-
-pub read_stays : (x : RowReading) (r : RowAnswer) (out₀ out : List ℕ) → r ≡ answer_of x → is_row r ≡ false → out ≡ out₀ → RowRead x out₀ r out
-read_stays x r out₀ out e q o = record { says = ap row_means e ∙ answer_says x; leaves = o ∙ stays-leaves x out₀ (ap is_row (sym e) ∙ q) }
-
-pub read_given : (x : RowReading) (r : RowAnswer) (s : ℕ) (t out₀ out₁ out : List ℕ) → r ≡ answer_of x → x ≡ row s t → out₁ ≡ out₀ → out ≡ reading_leaves (row s t) out₁ → RowRead x out₀ r out
-read_given x r s t out₀ out₁ out e q o w = record { says = ap row_means e ∙ answer_says x; leaves = rw (q, ← o) w }
+-- a buffer that has room for every row has room for this one
+pub trace_fits : {n : ℕ} {l : List ℕ} {r : Row} {trace : List ℕ} (room : ℕ) → RowOnLine n l r trace → positions ≤ room → IsTrace trace room
+trace_fits room w h = record { numbers = w.is_trace.numbers; few = omega (arith, w.is_trace.few) }

@@ -26,8 +26,7 @@ use Rattle.logfile.specs.Refusals.{LineIs}
 use Rattle.logfile.specs.Cursor.{start, from_line, standing, read_next, row_start, cursor_after, Reached, at_start, one_more}
 use Rattle.logfile.specs.Row.{begun}
 use Rattle.logfile.specs.declared.Cursor.{Cursor}
-use Rattle.logfile.specs.declared.Begun.{Begun}
-use Rattle.logfile.specs.declared.Begun.TheVariants.{At, Differs}
+use Rattle.std.specs.Prelude.{Option, Some, None}
 use Rattle.logfile.proofs.FileLaws.{Passed, begun-passed, rows-past, row_unfit, row_start_lem, next_unfit, next_differs, next_end, next_here}
 
 -- what isn't a row is no row
@@ -165,26 +164,28 @@ later_same text r q room h l = rw (lt-ltb 0 r h, lt-ltb 0 q (omega arith)) (go (
 -- ---- the cursor
 
 -- a cursor's row: the line that it was read from
-pub record Row (text : List ℕ) (c : Cursor) (s : ℕ) (t : List ℕ) : Type 0 where
+pub record RowAt (text : List ℕ) (c : Cursor) (s : ℕ) (t : List ℕ) : Type 0 where
   pub i : ℕ
   pub n : ℕ
   pub passed : Passed text (standing text c) c.line i n
   pub inside : i < length text
   pub reads : read_line n (slice i (line_end text i) text) ≡ row s t
 
-row_at : (text : List ℕ) (c : Cursor) (room s : ℕ) (t : List ℕ) → read_next text c room ≡ row s t → (sizes_ok text room ≡ true) × Row text c s t
+row_at : (text : List ℕ) (c : Cursor) (room s : ℕ) (t : List ℕ) → read_next text c room ≡ row s t → (sizes_ok text room ≡ true) × RowAt text c s t
 row_at text c room s t e = fit (sizes_ok text room) refl
   where
-    at : sizes_ok text room ≡ true → (b : Begun) → begun text (standing text c) c.line ≡ b → Row text c s t
-    at f Differs b = absurd (fault_no_row (sym (next_differs text c room f b) ∙ e))
-    at f (At i n) b =
+    at : sizes_ok text room ≡ true → (b : Option Cursor) → begun text (standing text c) c.line ≡ b → RowAt text c s t
+    at f None b = absurd (fault_no_row (sym (next_differs text c room f b) ∙ e))
+    at f (Some k) b =
+        let i : ℕ = k.at in
+        let n : ℕ = k.line in
         let p = begun-passed text (standing text c) c.line i n (omega arith) b in
         ⊎_elim
         (λ h. record { i = i; n = n; passed = p; inside = h; reads = sym (next_here text c room f i n p (line_end text i) h refl) ∙ e })
         (λ h. absurd (end_no_row (sym (next_end text c room f i n p h) ∙ e)))
         (lt_or_le i (length text))
 
-    fit : (b : Bool) → sizes_ok text room ≡ b → (sizes_ok text room ≡ true) × Row text c s t
+    fit : (b : Bool) → sizes_ok text room ≡ b → (sizes_ok text room ≡ true) × RowAt text c s t
     fit true f = (f, at f (begun text (standing text c) c.line) refl)
     fit false f = absurd (fault_no_row (sym (next_unfit text c room f) ∙ e))
 
@@ -206,7 +207,7 @@ stands_start text room f j =
     let e : 1 + j - 1 ≡ j = omega arith in
     rw z (row_start_lem text (1 + j) room (omega arith) f ∙ ap (λ (k : ℕ). from_line 1 k (lines (drop 0 text))) e)
 
-stands_more : (text : List ℕ) (room k : ℕ) (c : Cursor) (s : ℕ) (t : List ℕ) → Stands text room k c → Row text c s t → Stands text room (suc k) (cursor_after text c (row s t))
+stands_more : (text : List ℕ) (room k : ℕ) (c : Cursor) (s : ℕ) (t : List ℕ) → Stands text room k c → RowAt text c s t → Stands text room (suc k) (cursor_after text c (row s t))
 stands_more text room k c s t h r j =
     let e : ℕ = line_end text r.i in
     let u : suc (suc k) + j ≡ suc k + suc j = omega arith in

@@ -26,9 +26,8 @@ use Rattle.net.specs.Refusals.{outside_limits, line_form, number_form}
 use Rattle.net.specs.Sentences.{Sentence, whole, NoneHolds, order_on_line, AsListedByLine}
 use Rattle.net.proofs.SentenceLaws.{ascends, Told, told_end, whole_link, ToldFrom, passed_all, line_passes, line_stops, line_told, told_by_line, refused-same, accepted-not-refused, holds-whole}
 use Rattle.logfile.specs.Limits.{log_bytes, log_rows}
-use Rattle.logfile.specs.LogFile.{RowReading, row, end, fault, is_sessions, entries, read_fields, read_parts, read_line, past, row_after, log_header, after_header, sizes_ok, read_row, RowSays, row_means, reading_says}
+use Rattle.logfile.specs.LogFile.{RowReading, row, end, fault, is_sessions, entries, read_fields, read_parts, read_line, past, row_after, log_header, after_header, sizes_ok, read_row, RowSays, row_refused, reading_says}
 use Rattle.logfile.specs.Refusals.{LineIs, trace_text, row_text, LogOutsideLimits, CommasDiffer, NumbersDiffer, RowExceeds, UpToRow, line_refusals, row_refusals}
-use Rattle.logfile.specs.declared.RowAnswer.TheVariants.{Refused}
 use Rattle.logfile.proofs.AnswerLaws.{line_row, line_printed, line-sessions, line-entries}
 use Rattle.logfile.proofs.FileLaws.{sizes_exactly}
 use Rattle.logfile.proofs.CursorLaws.{row_on_line, end_no_line}
@@ -122,18 +121,18 @@ rest_line text m l ls d =
 rest_none : (text : List ℕ) (m n : ℕ) → drop m (lines text) ≡ [] → m < n → (l : List ℕ) → LineIs text n l → ⊥
 rest_none text m n d h l at = none_next text m n d h at.high
 
-same_answer : (n m p q : ℕ) → row_means (Refused n p) ≡ row_means (Refused m q) → (n ≡ m) × (p ≡ q)
+same_answer : (n m p q : ℕ) → row_refused n p ≡ row_refused m q → (n ≡ m) × (p ≡ q)
 same_answer n m p q e = refused-same n m p q (ap (λ (x : RowSays). x.says) e)
 
-row-answers : (s : ℕ) (t : List ℕ) (n p : ℕ) → reading_says (row s t) ≡ row_means (Refused n p) → ⊥
+row-answers : (s : ℕ) (t : List ℕ) (n p : ℕ) → reading_says (row s t) ≡ row_refused n p → ⊥
 row-answers s t n p e = accepted-not-refused 1 n p (ap (λ (x : RowSays). x.says) e)
 
-end-answers : (n p : ℕ) → reading_says end ≡ row_means (Refused n p) → ⊥
+end-answers : (n p : ℕ) → reading_says end ≡ row_refused n p → ⊥
 end-answers n p e = accepted-not-refused 0 n p (ap (λ (x : RowSays). x.says) e)
 
 module _ (text : List ℕ) (r room : ℕ) where
   abbrev refusal : ℕ → ℕ → RowSays
-  refusal n p = row_means (Refused n p)
+  refusal n p = row_refused n p
 
   abbrev sentences : ℕ → List Sentence
   sentences = row_refusals text r room
@@ -220,7 +219,7 @@ module _ (text : List ℕ) (r room : ℕ) where
   orders (suc zero) = refl
   orders (suc (suc i)) = refl
 
-  pub row_listed : AsListedByLine (λ n p. row_means (Refused n p)) (row_refusals text r room) (reading_says (read_row text r room))
+  pub row_listed : AsListedByLine row_refused (row_refusals text r room) (reading_says (read_row text r room))
   row_listed = let w = file_told in told_by_line refusal sentences w.0 same_answer w.1 orders w.2
 
 -- ---- what is said where none holds
@@ -229,7 +228,7 @@ module _ (text : List ℕ) (r room : ℕ) where
   abbrev None : Type 0
   None = (line : ℕ) → NoneHolds (row_refusals text r room line)
 
-  said_none : ((n p : ℕ) → reading_says (read_row text r room) ≡ row_means (Refused n p) → ⊥) → None
+  said_none : ((n p : ℕ) → reading_says (read_row text r room) ≡ row_refused n p → ⊥) → None
   said_none = (row_listed text r room).not_refused_exactly.0
 
   none_said : None → (n p : ℕ) → read_row text r room ≡ fault n p → ⊥

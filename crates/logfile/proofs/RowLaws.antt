@@ -1,94 +1,103 @@
 -- Laws of one row's line: its two fields, and what each test of a number decides. Assumes nothing.
-use Prim.Native.Nat.{ℕ, suc, ◌+◌, ◌≤◌, ◌<◌}
-use mathlib.Core.Path.{◌≡◌, refl, ap, ◌∙◌}
-use mathlib.Core.Bool.{◌&&◌, and-false, cond}
+use Prim.Native.Nat.{ℕ, ◌+◌, ◌≤◌, ◌<◌}
+use mathlib.Core.Path.{◌≡◌, refl, ◌∙◌}
+use mathlib.Core.Bool.{Bool, true, false, ◌&&◌, and-false, cond}
 use mathlib.Core.List.{List, [], ◌∷◌}
 use native.Mathlib.Omega.{arith}
-use borrow.Author.Tests.{le-leb, lt-leb, lt-ltb, le-ltb}
+use borrow.Author.Tests.{le-leb, lt-leb, le-ltb, lt-ltb}
 use lib.Dec.{leb}
-use lib.ListN.{length, length-map}
-use lib.Seq.{slice}
+use lib.ListN.{length}
+use Rattle.std.specs.Prelude.{Option, Some, None, Result, Err}
+use Rattle.std.specs.Option.{ok_or}
+use Rattle.net.specs.declared.refusal.Refused.{Refused}
 use Rattle.obligations.specs.Limits.{positions}
 use Rattle.net.specs.Refusals.{outside_limits, line_form, number_form}
-use Rattle.text.specs.Bytes.{bytes_before, occurrences}
 use Rattle.text.specs.Fields.{comma, split}
 use Rattle.text.specs.Decimal.{value, parse_number, values}
-use Rattle.text.specs.declared.decimal.Number.TheVariants as number
-use Rattle.text.proofs.FieldLaws.{part_inside, two_parts, length-split}
 use Rattle.text.proofs.DecimalLaws.{number-value, number-refused}
 use Rattle.logfile.specs.Limits.{log_rows, most_sessions}
 use Rattle.logfile.specs.LogFile.{row, fault, is_sessions, entries, read_fields, read_parts, read_line}
-use Rattle.logfile.specs.Row.{answer_of, count_entries, IsTrace, TraceFilled, IsLogRow, second}
-use Rattle.logfile.specs.declared.RowAnswer.TheVariants as answer
-use Rattle.logfile.specs.declared.row.Entries.TheVariants as counted
+use Rattle.logfile.specs.Row.{parse_sessions, count_entries, RowOnLine}
 use Rattle.logfile.proofs.EntryLaws.{counted-value, counted-refused}
 
 -- ---- the fields of a row's line
 
-pub line_commas : (n : ℕ) (l : List ℕ) → (occurrences comma l ≡ 1 → ⊥) → read_line n l ≡ fault line_form n
+pub line_not_two : (n : ℕ) (l : List ℕ) → (length (split comma l) ≡ 2 → ⊥) → read_line n l ≡ fault line_form n
 unfolding read_line
-line_commas n l h = go (split comma l) (length-split comma l)
+line_not_two n l h = go (split comma l) h
   where
-    go : (fs : List (List ℕ)) → length fs ≡ suc (occurrences comma l) → read_parts n fs ≡ fault line_form n
-    go [] e = refl
-    go (a ∷ []) e = refl
-    go (a ∷ b ∷ []) e = absurd (h (omega arith))
-    go (a ∷ b ∷ c ∷ fs) e = refl
+    go : (fs : List (List ℕ)) → (length fs ≡ 2 → ⊥) → read_parts n fs ≡ fault line_form n
+    go [] f = refl
+    go (a ∷ []) f = refl
+    go (a ∷ b ∷ []) f = absurd (f refl)
+    go (a ∷ b ∷ c ∷ fs) f = refl
 
-module _ (n : ℕ) (s : List ℕ) (i e j : ℕ) (h : i ≤ e) (t : e ≤ length s) (q : j ≡ i + bytes_before comma (slice i e s)) (o : occurrences comma (slice i e s) ≡ 1) where
-  pub line_fields : read_line n (slice i e s) ≡ read_fields n (slice i j s) (slice (j + 1) e s)
-  unfolding read_line
-  line_fields = rw (two_parts comma s i e j h t q o)
+line_fields : (n : ℕ) (l f t : List ℕ) → split comma l ≡ f ∷ t ∷ [] → read_line n l ≡ read_fields n f t
+unfolding read_line
+line_fields n l f t e = rw e
 
--- the same of a line that is a row: its trace follows the comma
-module _ (s : List ℕ) (i e j room : ℕ) (h : i ≤ e) (t : e ≤ length s) (q : j ≡ i + bytes_before comma (slice i e s)) (r : IsLogRow (slice i e s) room) where
-  one_comma : occurrences comma (slice i e s) ≡ 1
-  one_comma = omega (arith, length-split comma (slice i e s), ap length r.fields)
+-- ---- the sessions of a field
 
-  pub row_comma : j < e
-  row_comma = part_inside comma s i e j h t q (omega (arith, one_comma))
+pub sessions_read : (f : List ℕ) (v : ℕ) → parse_sessions f ≡ Some v → (is_sessions f ≡ true) × (value f ≡ v)
+unfolding parse_sessions
+sessions_read f v = go (is_sessions f)
+  where
+    go : (b : Bool) → cond b (Some (value f)) None ≡ Some v → (b ≡ true) × (value f ≡ v)
+    go true q = (refl, cc)
+    go false q = cc
 
-  trace_is : r.trace ≡ slice (j + 1) e s
-  trace_is = let p = two_parts comma s i e j h t q one_comma in cc r.fields
+pub sessions_not : (f : List ℕ) → parse_sessions f ≡ None → is_sessions f ≡ false
+unfolding parse_sessions
+sessions_not f = go (is_sessions f)
+  where
+    go : (b : Bool) → cond b (Some (value f)) None ≡ None → b ≡ false
+    go true q = cc
+    go false q = refl
 
-  pub row_trace : IsTrace (slice (j + 1) e s) room
-  row_trace = rw trace_is at r.is_trace
+module _ (f : List ℕ) where
+  pub sessions_no_number : parse_number most_sessions f ≡ None → None ≡ parse_sessions f
+  unfolding parse_sessions is_sessions
+  sessions_no_number q = rw (number-refused most_sessions f q)
 
-  pub row_filled : (out₀ out : List ℕ) → TraceFilled (slice (j + 1) e s) out₀ out → TraceFilled (second (split comma (slice i e s))) out₀ out
-  row_filled out₀ out f = rw (two_parts comma s i e j h t q one_comma) f
+  pub sessions_zero : (v : ℕ) → parse_number most_sessions f ≡ Some v → v ≡ 0 → None ≡ parse_sessions f
+  unfolding parse_sessions is_sessions
+  sessions_zero v q z = let w = number-value most_sessions f v q in rw (w.0, w.1, le-ltb 0 v (omega arith))
+
+  pub sessions_some : (v : ℕ) → parse_number most_sessions f ≡ Some v → (v ≡ 0 → ⊥) → Some v ≡ parse_sessions f
+  unfolding parse_sessions is_sessions
+  sessions_some v q z = let w = number-value most_sessions f v q in rw (w.0, w.1, lt-ltb 0 v (omega arith))
 
 -- ---- what each test of a row decides
 
-module _ (n : ℕ) (f t : List ℕ) where
-  pub row_no_sessions : parse_number most_sessions f ≡ number.Refused → read_fields n f t ≡ fault number_form n
-  unfolding read_fields is_sessions
-  row_no_sessions q = rw (number-refused most_sessions f q)
+-- what could not be read
+pub not_read : {T : Type 0} (o : Option T) (f r : Refused) → o ≡ None → ◌≡◌ {A = Result T Refused} (Err f) (ok_or o r) → f ≡ r
+not_read {T} o f r q e = let z : ◌≡◌ {A = Result T Refused} (Err f) (Err r) = rw q at e in cc
 
-  pub row_no_entries : count_entries t ≡ counted.Refused → read_fields n f t ≡ fault number_form n
+module _ (n : ℕ) (l f t : List ℕ) (e : split comma l ≡ f ∷ t ∷ []) where
+  pub row_no_sessions : parse_sessions f ≡ None → read_line n l ≡ fault number_form n
   unfolding read_fields
-  row_no_entries q = rw (counted-refused t q, and-false (is_sessions f))
+  row_no_sessions q = line_fields n l f t e ∙ rw (sessions_not f q)
 
-  module _ (v : ℕ) (q : parse_number most_sessions f ≡ number.Value v) where
-    pub row_zero_sessions : v ≡ 0 → read_fields n f t ≡ fault number_form n
-    unfolding read_fields is_sessions
-    row_zero_sessions z = let w = number-value most_sessions f v q in rw (w.0, w.1, le-ltb 0 v (omega arith))
+  pub row_no_entries : count_entries t ≡ None → read_line n l ≡ fault number_form n
+  unfolding read_fields
+  row_no_entries q = line_fields n l f t e ∙ rw (counted-refused t q, and-false (is_sessions f))
 
-    module _ (p : 0 < v) (k : ℕ) (m : count_entries t ≡ counted.Count k) where
-      row_numbers_lem : read_fields n f t ≡ cond (leb k positions && leb n (log_rows + 1)) (row v (values (entries t))) (fault outside_limits n)
-      unfolding read_fields is_sessions
-      row_numbers_lem =
-          let w = number-value most_sessions f v q in
-          let c = counted-value t k m in
-          rw (w.0, w.1, lt-ltb 0 v p, c.0, c.1)
+  module _ (v k : ℕ) (q : parse_sessions f ≡ Some v) (m : count_entries t ≡ Some k) where
+    row_numbers_lem : read_line n l ≡ cond (leb k positions && leb n (log_rows + 1)) (row v (values (entries t))) (fault outside_limits n)
+    unfolding read_fields
+    row_numbers_lem = let w = sessions_read f v q in let c = counted-value t k m in line_fields n l f t e ∙ rw (w.0, w.1, c.0, c.1)
 
-      pub row_long : positions < k → read_fields n f t ≡ fault outside_limits n
-      row_long l = row_numbers_lem ∙ rw (lt-leb k positions l)
+    pub row_long : positions < k → read_line n l ≡ fault outside_limits n
+    row_long h = row_numbers_lem ∙ rw (lt-leb k positions h)
 
-      pub row_many : log_rows + 1 < n → read_fields n f t ≡ fault outside_limits n
-      row_many l = row_numbers_lem ∙ rw (lt-leb n (log_rows + 1) l, and-false (leb k positions))
+    pub row_many : log_rows + 1 < n → read_line n l ≡ fault outside_limits n
+    row_many h = row_numbers_lem ∙ rw (lt-leb n (log_rows + 1) h, and-false (leb k positions))
 
-      pub row_good : k ≤ positions → n ≤ log_rows + 1 → answer_of (read_fields n f t) ≡ answer.Row v k
-      row_good l u =
-          let c = counted-value t k m in
-          let g : read_fields n f t ≡ row v (values (entries t)) = row_numbers_lem ∙ rw (le-leb k positions l, le-leb n (log_rows + 1) u) in
-          ap answer_of g ∙ ap (answer.Row v) (length-map (entries t) value ∙ c.1)
+    pub row_good : k ≤ positions → n ≤ log_rows + 1 → RowOnLine n l (record { sessions = v; length = k }) t
+    row_good h u =
+        let c = counted-value t k m in
+        record {
+          reads = row_numbers_lem ∙ rw (le-leb k positions h, le-leb n (log_rows + 1) u);
+          long = c.1;
+          is_trace = record { numbers = c.0; few = omega (arith, c.1) };
+        }

@@ -1,17 +1,17 @@
 -- Reading a row of a log file (01, "The tables" and "Refused, lowest number first"): by line, and on a line 13 before 14
 -- before 3.
-use Rattle.std.specs.Prelude.{ℕ, zero, suc, ◌+◌, ◌-◌, ◌≡◌, Bool, ◌&&◌, List, [], ◌∷◌, ◌++◌, leb, ltb, length, drop}
+use Rattle.std.specs.Prelude.{ℕ, zero, suc, ◌+◌, ◌-◌, ◌≡◌, Bool, ◌&&◌, List, [], ◌∷◌, ◌++◌, leb, ltb, length, drop, Option, Some, None, Result, Ok, Err}
 use Rattle.obligations.specs.Limits.{positions}
 use Rattle.text.specs.Bytes.{same_bytes}
 use Rattle.text.specs.Lines.{lines}
 use Rattle.text.specs.Fields.{comma, space, split}
 use Rattle.text.specs.Decimal.{value, is_number, all_numbers, values}
 use Rattle.text.specs.Members.{highest}
-use Rattle.net.specs.Refusals.{Says, accepted, refused, outside_limits, line_form, number_form}
+use Rattle.net.specs.Refusals.{Says, accepted, refused, refusal_number, outside_limits, line_form, number_form}
 use Rattle.net.specs.Chains.{unless_by}
 use Rattle.logfile.specs.Limits.{log_bytes, log_rows, most_sessions}
-use Rattle.logfile.specs.declared.RowAnswer.{RowAnswer}
-use Rattle.logfile.specs.declared.RowAnswer.TheVariants.{Row, End, Refused}
+use Rattle.net.specs.declared.refusal.Refused.{Refused}
+use Rattle.logfile.specs.declared.Row.{Row}
 
 -- what is read: a row's sessions and trace, "end", or a refusal's number and line
 pub data RowReading : Type 0 where
@@ -87,15 +87,18 @@ pub record RowSays : Type 0 where
   pub sessions : ℕ
   pub entries : ℕ
 
-abbrev pub row_means : RowAnswer → RowSays
-row_means (Row s n) = record { says = accepted 1; sessions = s; entries = n }
-row_means End = record { says = accepted 0; sessions = 0; entries = 0 }
-row_means (Refused n p) = record { says = refused n p; sessions = 0; entries = 0 }
+abbrev pub row_refused : ℕ → ℕ → RowSays
+row_refused n p = record { says = refused n p; sessions = 0; entries = 0 }
+
+abbrev pub row_means : Result (Option Row) Refused → RowSays
+row_means (Ok (Some r)) = record { says = accepted 1; sessions = r.sessions; entries = r.length }
+row_means (Ok None) = record { says = accepted 0; sessions = 0; entries = 0 }
+row_means (Err r) = row_refused (refusal_number r.refusal) r.place
 
 abbrev pub reading_says : RowReading → RowSays
 reading_says (row s t) = record { says = accepted 1; sessions = s; entries = length t }
 reading_says end = record { says = accepted 0; sessions = 0; entries = 0 }
-reading_says (fault n p) = record { says = refused n p; sessions = 0; entries = 0 }
+reading_says (fault n p) = row_refused n p
 
 -- a row's trace at the buffer's front, and every other word as it was
 abbrev pub reading_leaves : RowReading → List ℕ → List ℕ
@@ -103,6 +106,6 @@ reading_leaves (row s t) out = t ++ drop (length t) out
 reading_leaves end out = out
 reading_leaves (fault n p) out = out
 
-pub record RowRead (reading : RowReading) (out₀ : List ℕ) (r : RowAnswer) (out : List ℕ) : Type 0 where
+pub record RowRead (reading : RowReading) (out₀ : List ℕ) (r : Result (Option Row) Refused) (out : List ℕ) : Type 0 where
   pub says : row_means r ≡ reading_says reading
   pub leaves : out ≡ reading_leaves reading out₀

@@ -4,15 +4,14 @@ use mathlib.Core.List.{List, Memᴰ}
 use Rattle.obligations.specs.Limits.{activities, positions}
 use Rattle.net.specs.Sentences.{NoneHolds, AsListedByLine}
 use Rattle.logfile.specs.Limits.{log_rows, most_sessions}
-use Rattle.logfile.specs.LogFile.{row, end, read_row, row_means, reading_says}
+use Rattle.logfile.specs.LogFile.{row, end, read_row, row_refused, reading_says}
 use Rattle.logfile.specs.Refusals.{LineIs, row_text, row_refusals}
 use Rattle.logfile.specs.Cursor.{read_next, Reached}
 use Rattle.logfile.specs.declared.Cursor.{Cursor}
-use Rattle.logfile.specs.declared.RowAnswer.TheVariants.{Refused}
 
 -- reading a row is refused exactly as its sentences are listed, by line, and else not refused
 abbrev pub RowListed : Type 0
-RowListed = (text : List ℕ) (r room : ℕ) → AsListedByLine (λ n p. row_means (Refused n p)) (row_refusals text r room) (reading_says (read_row text r room))
+RowListed = (text : List ℕ) (r room : ℕ) → AsListedByLine row_refused (row_refusals text r room) (reading_says (read_row text r room))
 
 -- no sentence holds
 abbrev pub RowNotRefused : List ℕ → ℕ → ℕ → Type 0

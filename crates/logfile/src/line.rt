@@ -1,0 +1,81 @@
+// One row's line: what it says, and its trace written to a buffer.
+
+ghost use Rattle.std.specs.Prelude.{◌≡◌, ◌∷◌, [], length, MatchOption, MatchResult};
+ghost use Rattle.text.specs.Fields.{comma, split};
+ghost use Rattle.logfile.specs.LogFile.{read_line};
+ghost use Rattle.logfile.specs.Row.{fault_of, count_entries, parse_sessions, IsTrace, TraceFilled, RowOnLine};
+
+use super::{LOG_ROWS, MOST_SESSIONS, Row};
+use net::{Refusal, Refused};
+use obligations::{ACTIVITIES, POSITIONS};
+use text::decimal::read_number;
+use text::fields::split;
+
+// What a line says as a row, with its trace's field.
+pub fn row_line(number: u32, line: &[u8]) -> Result<(Row, &[u8]), Refused>
+    ensures { MatchResult result (λ p. RowOnLine number line.now p.0 p.1.now) (λ r. read_line number line.now ≡ fault_of r) }
+{
+    let (first, trace) = two_fields(line).ok_or(Refusal::LineForm.at(number))?;
+    let sessions = read_sessions(first).ok_or(Refusal::NumberForm.at(number))?;
+    let length = count_entries(trace).ok_or(Refusal::NumberForm.at(number))?;
+    // Row r is on line r + 1.
+    if POSITIONS < length || LOG_ROWS + 1 < number {
+        return Err(Refusal::OutsideLimits.at(number));
+    }
+    let row = Row {
+        sessions,
+        length: length as u32,
+    };
+    Ok((row, trace))
+}
+
+// The fields of a line that has two.
+fn two_fields(line: &[u8]) -> Option<(&[u8], &[u8])>
+    ensures { MatchOption result (length (split comma line.now) ≡ 2 → ⊥) (λ f. split comma line.now ≡ f.0.now ∷ f.1.now ∷ []) }
+{
+    let mut fields = split(line, b',');
+    match (fields.next(), fields.next(), fields.next()) {
+        (Some(sessions), Some(trace), None) => Some((sessions, trace)),
+        _ => None,
+    }
+}
+
+// The sessions that a field says.
+fn read_sessions(field: &[u8]) -> Option<u32>
+    ensures { result ≡ parse_sessions field.now }
+{
+    let sessions = read_number(field, MOST_SESSIONS)?;
+    if sessions == 0 {
+        return None;
+    }
+    Some(sessions)
+}
+
+// How many entries a trace has, if all are activities. Those past the last that a trace may have are tested too, since a wrong one
+// among them is refused by 14, which comes before 3.
+fn count_entries(trace: &[u8]) -> Option<usize>
+    ensures { result ≡ count_entries trace.now }
+{
+    if trace.is_empty() {
+        return Some(0);
+    }
+    let mut n: usize = 0;
+    for entry in split(trace, b' ') {
+        read_number(entry, ACTIVITIES - 1)?;
+        n += 1;
+    }
+    Some(n)
+}
+
+// Writes the entries of a trace, which were found to be activities, to the buffer's front.
+pub fn fill_trace(trace: &[u8], out: &mut [u32])
+    requires { IsTrace trace.now (length out.old) }
+    ensures { TraceFilled trace.now out.old out.new }
+{
+    if trace.is_empty() {
+        return;
+    }
+    for (k, entry) in split(trace, b' ').enumerate() {
+        out[k] = read_number(entry, ACTIVITIES - 1).unwrap();
+    }
+}
