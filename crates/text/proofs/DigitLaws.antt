@@ -1,8 +1,10 @@
 -- Laws of digits, for the loops over them. Reading may stop at the first byte that decides, since a value only grows with
 -- further digits; writing goes from the last digit to the first, as many as there are. Assumes nothing.
-use Rattle.std.proofs.Common.{ℕ, zero, suc, ◌+◌, ◌*◌, ◌-◌, ◌≤◌, ◌<◌, ◌^◌, ◌/◌, ◌≡◌, refl, ap, ◌∙◌, Bool, true, false, ◌&&◌, cond, List, [], ◌∷◌, ◌++◌, pow-suc, arith, le-leb, leb-true, leb-false, lt-ltb, le-ltb, leb, ltb, length, length-append, Option, Some, None}
+use Rattle.std.proofs.Common.{get_or, eq-eqb, ℕ, zero, suc, ◌+◌, ◌*◌, ◌-◌, ◌≤◌, ◌<◌, ◌^◌, ◌/◌, ◌≡◌, refl, ap, ◌∙◌, Bool, true, false, ◌&&◌, cond, List, [], ◌∷◌, ◌++◌, pow-suc, arith, le-leb, leb-true, leb-false, lt-ltb, le-ltb, leb, ltb, length, length-append, Option, Some, None}
 use mathlib.Core.Bool.{and-false}
 use Rattle.std.proofs.Math.Nat.{one-le-pow}
+use Rattle.std.proofs.Math.Seq.{slice}
+use Rattle.text.proofs.ByteLaws.{slice-step}
 use borrow.Author.Tests.{lt-leb}
 use Rattle.text.specs.Decimal.{is_digit, all_digits, value_from, well_led, is_number, parse_number, digit, last_digits, decimal, print_number}
 
@@ -36,6 +38,10 @@ number-start limit s h = rw (h, digits_early limit 0 s (omega arith))
 pub number_ill_led : (limit : ℕ) (s : List ℕ) → well_led s ≡ false → parse_number limit s ≡ None
 unfolding parse_number is_number
 number_ill_led limit s h = rw h
+
+-- a part of a text that begins with 0 and another byte is no number
+pub led-zero : (s : List ℕ) (i e : ℕ) → i + 1 < e → e ≤ length s → get_or s i 0 ≡ 48 → well_led (slice i e s) ≡ false
+led-zero s i e h t q = rw (slice-step s i e (omega arith) t, slice-step s (i + 1) e h t, eq-eqb (get_or s i 0) 48 q)
 
 -- ---- writing digit by digit
 
