@@ -109,14 +109,17 @@ impl Search<'_> {
 }
 
 // How many of activity a's sets stand before the first that is possible; all of them if none is. Most sets that a search
-// looks at aren't possible, so this does nothing but test.
+// looks at aren't possible, so this loop does nothing but test: `position`, which counts beside its walk, takes longer.
 fn next_possible(due: &Due, a: u32, sets: &[u32]) -> usize
     requires { a < activities }
     ensures { result ≡ position_or_len (λ x. possible due.now a x) sets.now }
 {
-    sets.iter()
-        .position(|x| due.is_possible(a, *x))
-        .unwrap_or(sets.len())
+    for (i, x) in sets.iter().enumerate() {
+        if due.is_possible(a, *x) {
+            return i;
+        }
+    }
+    sets.len()
 }
 
 // Past the last position: found if nothing is due any more.
