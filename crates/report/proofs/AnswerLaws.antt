@@ -9,20 +9,21 @@ use lib.Seq.{take-append_seam}
 use Rattle.obligations.specs.Limits.{positions}
 use Rattle.obligations.proofs.ListLaws.{member-at}
 use Rattle.logfile.specs.LogFile.{RowReading, row, end, fault, RowSays, row_means, reading_says, read_row}
-use Rattle.logfile.specs.declared.RowAnswer.{RowAnswer}
-use Rattle.logfile.specs.declared.RowAnswer.TheVariants.{Row, End, Refused}
+use Rattle.std.specs.Prelude.{Option, Some, None, Result, Ok, Err}
+use Rattle.net.specs.declared.refusal.Refused.{Refused}
+use Rattle.logfile.specs.declared.Row.{Row}
 use Rattle.logfile.proofs.Theorems.{row-is_trace}
 use Rattle.search.specs.Trace.{TraceWithRoom}
 
-pub given_row : (x : RowReading) (s n : ℕ) → row_means (Row s n) ≡ reading_says x → (t : List ℕ) × (x ≡ row s t) × (length t ≡ n)
-given_row (row a t) s n e = (t, ap (λ (k : ℕ). row k t) (sym (ap (λ (r : RowSays). r.sessions) e)), sym (ap (λ (r : RowSays). r.entries) e))
-given_row end s n e = let z : ◌≡◌ {A = ℕ} 1 0 = ap (λ (r : RowSays). r.says.value) e in absurd (omega arith)
-given_row (fault a b) s n e = let z : ◌≡◌ {A = ℕ} 1 0 = ap (λ (r : RowSays). r.says.value) e in absurd (omega arith)
+pub given_row : (r : Row) (x : RowReading) → row_means (Ok (Some r)) ≡ reading_says x → (t : List ℕ) × (x ≡ row r.sessions t) × (length t ≡ r.length)
+given_row r (row a t) e = (t, ap (λ (k : ℕ). row k t) (sym (ap (λ (m : RowSays). m.sessions) e)), sym (ap (λ (m : RowSays). m.entries) e))
+given_row r end e = let z : ◌≡◌ {A = ℕ} 1 0 = ap (λ (m : RowSays). m.says.value) e in absurd (omega arith)
+given_row r (fault a b) e = let z : ◌≡◌ {A = ℕ} 1 0 = ap (λ (m : RowSays). m.says.value) e in absurd (omega arith)
 
-pub no_row : (a : RowAnswer) (x : RowReading) → row_means a ≡ reading_says x → ((s n : ℕ) → a ≡ Row s n → ⊥) → (s : ℕ) (t : List ℕ) → x ≡ row s t → ⊥
-no_row (Row s n) x e h a t q = h s n refl
-no_row End x e h a t q = let z : ◌≡◌ {A = ℕ} 0 1 = ap (λ (r : RowSays). r.says.value) (e ∙ ap reading_says q) in omega arith
-no_row (Refused n p) x e h a t q = let z : ◌≡◌ {A = ℕ} 0 1 = ap (λ (r : RowSays). r.says.value) (e ∙ ap reading_says q) in omega arith
+pub no_row : (a : Result (Option Row) Refused) (x : RowReading) → row_means a ≡ reading_says x → ((r : Row) → a ≡ Ok (Some r) → ⊥) → (s : ℕ) (t : List ℕ) → x ≡ row s t → ⊥
+no_row (Ok (Some r)) x e h s t q = h r refl
+no_row (Ok None) x e h s t q = let z : ◌≡◌ {A = ℕ} 0 1 = ap (λ (m : RowSays). m.says.value) (e ∙ ap reading_says q) in omega arith
+no_row (Err f) x e h s t q = let z : ◌≡◌ {A = ℕ} 0 1 = ap (λ (m : RowSays). m.says.value) (e ∙ ap reading_says q) in omega arith
 
 -- the front of a buffer with a trace at its front
 pub front_is : (t buf out : List ℕ) (n : ℕ) → out ≡ t ++ drop (length t) buf → length t ≡ n → take n out ≡ t

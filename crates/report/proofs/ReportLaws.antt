@@ -2,12 +2,13 @@
 use Prim.Native.Nat.{ℕ, ◌+◌, ◌≤◌, ◌<◌}
 use mathlib.Core.Path.{◌≡◌, refl, ap}
 use mathlib.Core.Bool.{Bool, true, false, cond}
-use mathlib.Core.List.{List, [], ◌∷◌, ◌++◌}
+use mathlib.Core.List.{List, [], ◌∷◌}
 use native.Mathlib.Omega.{arith}
 use borrow.Author.Tests.{le-leb, lt-leb}
 use lib.Dec.{leb}
 use lib.ListN.{length, length-append}
 use Rattle.obligations.specs.Limits.{positions}
+use Rattle.obligations.proofs.BoolLaws.{false-not-true}
 use Rattle.text.specs.Inner.{Wrote}
 use Rattle.text.specs.Lines.{unlines}
 use Rattle.net.specs.Refusals.{refused, outside_limits}
@@ -15,20 +16,20 @@ use Rattle.net.specs.Orderly.{orderly}
 use Rattle.net.specs.declared.Net.{Net}
 use Rattle.net.proofs.FreshLaws.{fresh_orderly, zero_one}
 use Rattle.walks.specs.Check.{check_says}
-use Rattle.netfile.specs.NetFile.{refused_at, read_net}
+use Rattle.netfile.specs.NetFile.{net_means, refused_at, read_net}
 use Rattle.netfile.proofs.Theorems.{read-orderly}
 use Rattle.logfile.specs.Limits.{log_rows}
 use Rattle.logfile.specs.LogFile.{RowSays, row_means, reading_says, read_row}
-use Rattle.logfile.specs.declared.RowAnswer.{RowAnswer}
-use Rattle.logfile.specs.declared.RowAnswer.TheVariants.{Row, End, Refused}
-use Rattle.report.specs.Report.{file_bytes, report_room, net_word, log_word, report_header, refusal_text, rows_text, log_says, log_text, read_checked, report_text}
+use Rattle.std.specs.Prelude.{Option, Some, None, Result, Ok, Err, is_err, ⊤}
+use Rattle.net.specs.declared.refusal.Refused.{Refused}
+use Rattle.logfile.specs.declared.Row.{Row}
+use Rattle.report.specs.Report.{file_bytes, report_room, net_word, log_word, report_header, refusal_text, rows_text, table_text, log_says, log_text, read_checked, report_text}
 use Rattle.report.proofs.TextLaws.{refusal_short, rows_short}
 
--- an answer of another kind is no refusal
-pub not_refused : (a : RowAnswer) → ((n p : ℕ) → a ≡ Refused n p → ⊥) → (row_means a).says.ok ≡ true
-not_refused (Row s n) h = refl
-not_refused End h = refl
-not_refused (Refused n p) h = absurd (h n p refl)
+-- what was read of a log is no refusal
+pub row_read : (there : Option Row) (a : Result (Option Row) Refused) → a ≡ Ok there → (row_means a).says.ok ≡ true
+row_read (Some r) a e = rw e
+row_read None a e = rw e
 
 -- ---- the log
 
@@ -41,27 +42,37 @@ module _ (net : Net) (log : List ℕ) where
   unfolding log_text
   log_refused h n p e = rw (le-leb (length log) file_bytes h, e) refl
 
-  pub log_read : length log ≤ file_bytes → (log_says log).ok ≡ true → log_text net log ≡ unlines (report_header ∷ []) ++ rows_text net log log_rows 1
+  pub log_read : length log ≤ file_bytes → (log_says log).ok ≡ true → log_text net log ≡ table_text net log
   unfolding log_text
   log_read h e = rw (le-leb (length log) file_bytes h, e) refl
 
   -- the header and the rows have at most 28,028 bytes
-  pub rows_room : length (unlines (report_header ∷ [])) + length (rows_text net log log_rows 1) ≤ report_room
-  rows_room = omega (arith, rows_short net log log_rows 1)
+  pub table_short : length (table_text net log) ≤ report_room
+  unfolding table_text
+  table_short = omega (arith, length-append (unlines (report_header ∷ [])) (rows_text net log log_rows 1), rows_short net log log_rows 1)
 
   pub log_short : length (log_text net log) ≤ report_room
   unfolding log_text
   log_short = go (leb (length log) file_bytes) (log_says log).ok
     where
-      go : (a b : Bool) → length (cond a (cond b (unlines (report_header ∷ []) ++ rows_text net log log_rows 1) (refusal_text log_word (log_says log).refusal (log_says log).place)) (refusal_text log_word outside_limits 0)) ≤ report_room
-      go true true = omega (arith, length-append (unlines (report_header ∷ [])) (rows_text net log log_rows 1), rows_room)
+      go : (a b : Bool) → length (cond a (cond b (table_text net log) (refusal_text log_word (log_says log).refusal (log_says log).place)) (refusal_text log_word outside_limits 0)) ≤ report_room
+      go true true = table_short
       go true false = omega (arith, refusal_short log_word (log_says log).refusal (log_says log).place)
       go false b = omega (arith, refusal_short log_word outside_limits 0)
 
 -- ---- the net
 
+-- what was answered of a net
+pub answer_ok : (a : Result ⊤ Refused) → is_err a ≡ false → (net_means a).ok ≡ true
+answer_ok (Ok v) h = refl
+answer_ok (Err f) h = absurd (false-not-true h refl)
+
+pub answer_err : (a : Result ⊤ Refused) → is_err a ≡ true → (f : Refused) × (a ≡ Err f)
+answer_err (Ok v) h = absurd (false-not-true refl h)
+answer_err (Err f) h = (f, refl)
+
 -- what is said of the row after the last that a log may have is said of the log
-pub row-past_all : (log : List ℕ) (a : RowAnswer) → row_means a ≡ reading_says (read_row log (log_rows + 1) positions) → (row_means a).says ≡ log_says log
+pub row-past_all : (log : List ℕ) (a : Result (Option Row) Refused) → row_means a ≡ reading_says (read_row log (log_rows + 1) positions) → (row_means a).says ≡ log_says log
 unfolding log_says
 row-past_all log a h = ap (λ (y : RowSays). y.says) h
 

@@ -10,7 +10,8 @@ use Rattle.logfile.specs.LogFile.{RowReading, row, row_means, reading_says, read
 use Rattle.logfile.specs.Cursor.{start, read_next, cursor_after, NextRead, Reached, at_start, one_more}
 use Rattle.logfile.specs.declared.Cursor.{Cursor}
 use Rattle.logfile.specs.declared.NextRow.{NextRow}
-use Rattle.logfile.specs.declared.RowAnswer.TheVariants.{Row}
+use Rattle.std.specs.Prelude.{Ok, Some}
+use Rattle.logfile.specs.declared.Row.{Row}
 use Rattle.logfile.proofs.Theorems.{row-is_trace, cursor_reads-next}
 use Rattle.report.proofs.AnswerLaws.{given_row, no_row}
 
@@ -24,10 +25,10 @@ pub standing-start : (log : List ℕ) (c : Cursor) (trace : List ℕ) → c ≡ 
 standing-start log c trace e h = rw e (record { low = omega arith; high = omega arith; reached = at_start; room = h })
 
 -- a row that was read: its trace is at the buffer's front
-pub record RowGiven (log : List ℕ) (r s n : ℕ) (trace trace' : List ℕ) : Type 0 where
+pub record RowGiven (log : List ℕ) (r : ℕ) (given : Row) (trace trace' : List ℕ) : Type 0 where
   pub entries : List ℕ
-  pub is_row : read_row log r positions ≡ row s entries
-  pub as_long : length entries ≡ n
+  pub is_row : read_row log r positions ≡ row given.sessions entries
+  pub as_long : length entries ≡ given.length
   pub in_front : trace' ≡ entries ++ drop (length entries) trace
 
 module _ (log : List ℕ) (r : ℕ) (c : Cursor) (trace : List ℕ) (z : Standing log r c trace) where
@@ -40,9 +41,9 @@ module _ (log : List ℕ) (r : ℕ) (c : Cursor) (trace : List ℕ) (z : Standin
     pub standing_says : row_means x.answer ≡ reading_says (read_row log r positions)
     standing_says = w.reads.says ∙ ap reading_says standing_reads
 
-    pub standing_row : (s n : ℕ) → x.answer ≡ Row s n → RowGiven log r s n trace trace'
-    standing_row s n e =
-        let g = given_row (read_row log r positions) s n (ap row_means (sym e) ∙ standing_says) in
+    pub standing_row : (given : Row) → x.answer ≡ Ok (Some given) → RowGiven log r given trace trace'
+    standing_row given e =
+        let g = given_row given (read_row log r positions) (ap row_means (sym e) ∙ standing_says) in
         record {
           entries = g.0;
           is_row = g.1;
@@ -50,21 +51,21 @@ module _ (log : List ℕ) (r : ℕ) (c : Cursor) (trace : List ℕ) (z : Standin
           in_front = w.reads.leaves ∙ ap (λ (y : RowReading). reading_leaves y trace) (standing_reads ∙ g.1);
         }
 
-    pub standing_none : ((s n : ℕ) → x.answer ≡ Row s n → ⊥) → (s : ℕ) (t : List ℕ) → read_row log r positions ≡ row s t → ⊥
+    pub standing_none : ((given : Row) → x.answer ≡ Ok (Some given) → ⊥) → (s : ℕ) (t : List ℕ) → read_row log r positions ≡ row s t → ⊥
     standing_none h = no_row x.answer (read_row log r positions) standing_says h
 
     -- past a row it stands at the next
-    pub standing_more : r ≤ log_rows → (s n : ℕ) → x.answer ≡ Row s n → Standing log (r + 1) x.cursor trace'
-    standing_more h s n e =
-        let g = standing_row s n e in
-        let q : read_next log c (length trace) ≡ row s g.entries = standing_reads ∙ g.is_row in
+    pub standing_more : r ≤ log_rows → (given : Row) → x.answer ≡ Ok (Some given) → Standing log (r + 1) x.cursor trace'
+    standing_more h given e =
+        let g = standing_row given e in
+        let q : read_next log c (length trace) ≡ row given.sessions g.entries = standing_reads ∙ g.is_row in
         let k : suc (r - 1) ≡ r + 1 - 1 = omega (arith, z.low) in
         record {
           low = omega arith;
           high = omega arith;
-          reached = rw (← k, w.goes_on ∙ ap (cursor_after log c) q) (one_more s g.entries z.reached (sym (ap (read_next log c) z.room) ∙ q));
+          reached = rw (← k, w.goes_on ∙ ap (cursor_after log c) q) (one_more given.sessions g.entries z.reached (sym (ap (read_next log c) z.room) ∙ q));
           room =
               ap length g.in_front
               ∙ length-append g.entries (drop (length g.entries) trace)
-              ∙ omega (arith, length-drop (length g.entries) trace, z.room, (row-is_trace log r positions s g.entries g.is_row).few_entries);
+              ∙ omega (arith, length-drop (length g.entries) trace, z.room, (row-is_trace log r positions given.sessions g.entries g.is_row).few_entries);
         }

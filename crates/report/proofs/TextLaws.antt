@@ -18,36 +18,24 @@ use Rattle.search.specs.Replay.{ReplaySays, says_found, says_none, says_spent, s
 use Rattle.text.proofs.DigitLaws.{number_below, number-within}
 use Rattle.report.specs.Report.{row_budget, refused_word, answer_word, answer_trials, refusal_text, report_line, reading_text, rows_text}
 
--- ---- the last piece of a line
-
-pub last_width : (b : List ℕ) (n : ℕ) → length ((b ++ print_number n) ++ (cr ∷ lf ∷ [])) ≡ length b + length (print_number n) + 2
-last_width b n = simp length-append (omega arith)
-
 -- ---- the line of a refusal
 
-refusal_pieces : (w f n l : List ℕ)
-    → (w ++ (comma ∷ (f ++ (comma ∷ (n ++ (comma ∷ (l ++ []))))))) ++ (cr ∷ lf ∷ []) ≡ ((((w ++ (comma ∷ [])) ++ f) ++ (comma ∷ [])) ++ n) ++ (((comma ∷ []) ++ l) ++ (cr ∷ lf ∷ []))
-refusal_pieces w f n l = simp (append_assoc, append-nil)
-
 module _ (file : List ℕ) (n line : ℕ) where
-  pub refusal_bytes : refusal_text file n line ≡ ((((refused_word ++ (comma ∷ [])) ++ file) ++ (comma ∷ [])) ++ print_number n) ++ (((comma ∷ []) ++ print_number line) ++ (cr ∷ lf ∷ []))
+  pub refusal_bytes : refusal_text file n line ≡ (refused_word ++ (comma ∷ [])) ++ (file ++ ((comma ∷ []) ++ (print_number n ++ ((comma ∷ []) ++ (print_number line ++ (cr ∷ lf ∷ []))))))
   unfolding refusal_text
-  refusal_bytes = refusal_pieces refused_word file (print_number n) (print_number line)
-
-  pub refusal_width : length (refusal_text file n line) ≡ 8 + length file + 1 + length (print_number n) + (1 + length (print_number line) + 2)
-  refusal_width = rw refusal_bytes (simp length-append (omega arith))
+  refusal_bytes = simp (append_assoc, append-nil)
 
   pub refusal_short : length (refusal_text file n line) ≤ length file + 52
-  refusal_short = omega (arith, refusal_width, number-within n, number-within line)
+  refusal_short = rw refusal_bytes (simp length-append (omega (arith, number-within n, number-within line)))
 
 -- ---- the line of a row
 
 module _ (r s : ℕ) (a : ReplaySays) where
-  pub row_bytes : report_line r s a ≡ ((print_number r ++ (comma ∷ [])) ++ print_number s) ++ (((comma ∷ (answer_word a ++ (comma ∷ []))) ++ print_number (answer_trials a)) ++ (cr ∷ lf ∷ []))
+  pub row_bytes : report_line r s a ≡ print_number r ++ ((comma ∷ []) ++ (print_number s ++ ((comma ∷ (answer_word a ++ (comma ∷ []))) ++ (print_number (answer_trials a) ++ (cr ∷ lf ∷ [])))))
   unfolding report_line
   row_bytes = simp (append_assoc, append-nil)
 
-  pub row_width : length (report_line r s a) ≡ length (print_number r) + 1 + length (print_number s) + (2 + length (answer_word a) + length (print_number (answer_trials a)) + 2)
+  row_width : length (report_line r s a) ≡ length (print_number r) + 1 + length (print_number s) + (2 + length (answer_word a) + length (print_number (answer_trials a)) + 2)
   row_width = rw row_bytes (simp length-append (omega arith))
 
   word_short : length (answer_word a) ≤ 5

@@ -85,12 +85,16 @@ rows_text net log (suc n) r = reading_text net r (read_row log r positions) ++ r
 unfoldable pub log_says : List ℕ → Says
 log_says log = (reading_says (read_row log (log_rows + 1) positions)).says
 
+-- the header and the rows
+unfoldable pub table_text : Net → List ℕ → List ℕ
+table_text net log = unlines (report_header ∷ []) ++ rows_text net log log_rows 1
+
 -- for a net that has been checked
 unfoldable pub log_text : Net → List ℕ → List ℕ
 log_text net log =
     unless_by (refusal_text log_word) (leb (length log) file_bytes) outside_limits 0
     (unless_by (refusal_text log_word) (log_says log).ok (log_says log).refusal (log_says log).place
-    (unlines (report_header ∷ []) ++ rows_text net log log_rows 1))
+    (table_text net log))
 
 -- the net of a file: its size is tested first, then its lines, then the net; a refusal of the net check has no line
 unfoldable pub read_checked : List ℕ → FileReading

@@ -3,8 +3,8 @@
 use Rattle.std.specs.Prelude.{ℕ, ◌*◌, ◌≤◌, ◌≡◌, List, length}
 use Rattle.obligations.specs.Limits.{positions}
 use Rattle.net.specs.declared.Net.{Net}
-use Rattle.walks.specs.Check.{check_means, check_says}
-use Rattle.walks.specs.declared.CheckAnswer.TheVariants.{Passed}
+use Rattle.net.specs.Refusals.{accepted}
+use Rattle.walks.specs.Check.{check_says}
 use Rattle.logfile.specs.LogFile.{row, read_row}
 use Rattle.search.specs.Replay.{replay_says}
 use Rattle.report.specs.Report.{row_budget, report_line, reading_text}
@@ -12,5 +12,5 @@ use Rattle.report.specs.Report.{row_budget, report_line, reading_text}
 -- in a net that passed the check, with any buffer that has room for every trace
 abbrev pub RowIsReplay : Type 0
 RowIsReplay =
-    (net : Net) (arcs : ℕ) (log : List ℕ) (r s : ℕ) (t out : List ℕ) → check_says net ≡ check_means (Passed arcs) → read_row log r positions ≡ row s t → 3 * positions ≤ length out
+    (net : Net) (arcs : ℕ) (log : List ℕ) (r s : ℕ) (t out : List ℕ) → check_says net ≡ accepted arcs → read_row log r positions ≡ row s t → 3 * positions ≤ length out
     → reading_text net r (read_row log r positions) ≡ report_line r s (replay_says net t row_budget (length out))

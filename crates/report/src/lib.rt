@@ -1,26 +1,25 @@
-// What the program `replay` prints (paper 01, "The tables"): the bytes of a net file and of a log file are turned into the
-// bytes of a report. The net is read and checked once; only then is the log looked at. It is read twice: once for a fault
-// anywhere in it, before anything is written, and once row after row.
+// What the program `replay` prints: the bytes of a net file and of a log file are turned into the bytes of a report. The net is
+// read and checked once; only then is the log looked at. It is read twice: once for a fault anywhere in it, before anything is
+// written, and once row after row.
 
 #![tactic(auto)]
 
 mod write;
 
-ghost use Rattle.std.specs.Prelude.{◌≡◌, true, ◌+◌, ◌≤◌, length};
+ghost use Rattle.std.specs.Prelude.{◌≡◌, true, ◌≤◌, length};
 ghost use Rattle.text.specs.Inner.{Wrote};
+ghost use Rattle.text.specs.Writing.{Room, Appends};
 ghost use Rattle.net.specs.Orderly.{orderly};
 ghost use Rattle.logfile.specs.Limits.{log_rows};
 ghost use Rattle.netfile.specs.NetFile.{Reads};
-ghost use Rattle.report.specs.Report.{report_room, rows_text, log_text, read_checked, report_text};
+ghost use Rattle.report.specs.Report.{report_room, table_text, rows_text, log_text, read_checked, report_text};
 
-use logfile::{LOG_ROWS, RowAnswer, next_row, read_row};
-use net::Net;
-use net::refusal::OUTSIDE_LIMITS;
-use netfile::{NetAnswer, NetReading, read_net, refused_reading};
+use logfile::{LOG_ROWS, next_row, read_row};
+use net::{Net, Refusal, Returned};
+use netfile::{read_net, refused_reading};
 use obligations::{POSITIONS, SEQUENCE_WORDS};
 use search::replay_lent;
-use text::bytes::write_bytes;
-use walks::CheckAnswer;
+use text::out::Out;
 pub use write::write_refusal;
 use write::write_row;
 
@@ -39,33 +38,26 @@ pub fn report(net_text: &[u8], log_text: &[u8], out: &mut [u8]) -> usize
     ensures { Wrote out.old 0 (report_text net_text.now log_text.now) out.new result }
 {
     let read = read_checked(net_text);
-    let answer = read.answer;
-    if let NetAnswer::Refused { number, place } = answer {
-        return write_refusal(out, b"net", number, place);
+    match read.answer {
+        Ok(()) => report_log(read.net, log_text, out),
+        Err(refused) => write_refusal(out, b"net", refused),
     }
-    report_log(read.net, log_text, out)
 }
 
 // Reads a net file and checks the net. A refusal of the check has no line, so its place is 0 here.
-pub fn read_checked(text: &[u8]) -> NetReading
+pub fn read_checked(text: &[u8]) -> Returned<()>
     ensures { Reads (read_checked text.now) result }
 {
     if FILE_BYTES < text.len() {
-        return refused_reading(OUTSIDE_LIMITS, 0);
+        return refused_reading(Refusal::OutsideLimits, 0);
     }
     let read = read_net(text);
-    let answer = read.answer;
-    if let NetAnswer::Refused {
-        number: _,
-        place: _,
-    } = answer
-    {
+    if read.answer.is_err() {
         return read;
     }
-    let checked = walks::check(read.net);
-    match checked {
-        CheckAnswer::Passed { arcs: _ } => read,
-        CheckAnswer::Refused { number, place: _ } => refused_reading(number, 0),
+    match walks::check(read.net) {
+        Ok(_) => read,
+        Err(refused) => refused_reading(refused.refusal, 0),
     }
 }
 
@@ -76,50 +68,56 @@ pub fn report_log(net: Net, text: &[u8], out: &mut [u8]) -> usize
     ensures { Wrote out.old 0 (log_text net text.now) out.new result }
 {
     if FILE_BYTES < text.len() {
-        return write_refusal(out, b"log", OUTSIDE_LIMITS, 0);
+        return write_refusal(out, b"log", Refusal::OutsideLimits.at(0));
     }
     let mut trace = [0u32; POSITIONS];
-    let answer = read_row(text, LOG_ROWS as u64 + 1, &mut trace);
-    if let RowAnswer::Refused { number, place } = answer {
-        return write_refusal(out, b"log", number, place);
+    if let Err(refused) = read_row(text, u64::from(LOG_ROWS) + 1, &mut trace) {
+        return write_refusal(out, b"log", refused);
     }
-    let p = write_bytes(out, 0, b"row,sessions,answer,trials\r\n");
-    write_rows(net, text, out, p)
+    write_table(&net, text, out)
 }
 
-// Replays the rows of a log and writes their lines. The net's arrays are lent to each replay.
-fn write_rows(net: Net, text: &[u8], out: &mut [u8], at: usize) -> usize
-    requires net_value { orderly net ≡ true }
-    requires log_rows_in_bounds { at + length (rows_text net text.now log_rows 1) ≤ length out.old }
-    ensures { Wrote out.old at (rows_text net text.now log_rows 1) out.new result }
+// Writes the header and the rows' lines to the front of the buffer, and returns their length.
+fn write_table(net: &Net, text: &[u8], out: &mut [u8]) -> usize
+    requires orderly { orderly net.now ≡ true }
+    requires room { length (table_text net.now text.now) ≤ length out.old }
+    ensures { Wrote out.old 0 (table_text net.now text.now) out.new result }
 {
-    let start = net.start;
-    let end = net.end;
+    let mut lines = Out::new(out);
+    table_lines(&mut lines, net, text);
+    lines.len()
+}
+
+// Writes the header and the rows' lines.
+fn table_lines(out: &mut Out, net: &Net, text: &[u8])
+    requires orderly { orderly net.now ≡ true }
+    requires room { Room out.old (table_text net.now text.now) }
+    ensures { Appends out.old (table_text net.now text.now) out.new }
+{
+    out.bytes(b"row,sessions,answer,trials\r\n");
+    write_rows(out, net, text);
+}
+
+// Replays the rows of a log and writes their lines. The net is lent to each replay.
+fn write_rows(out: &mut Out, net: &Net, text: &[u8])
+    requires orderly { orderly net.now ≡ true }
+    requires room { Room out.old (rows_text net.now text.now log_rows 1) }
+    ensures { Appends out.old (rows_text net.now text.now log_rows 1) out.new }
+{
     let mut trace = [0u32; POSITIONS];
     let mut bindings = [0u32; SEQUENCE_WORDS];
     let mut cursor = logfile::start();
-    let mut p = at;
-    let mut row: u32 = 1;
-    while row <= LOG_ROWS {
+    for row in 1..=LOG_ROWS {
         let read = next_row(text, cursor, &mut trace);
-        let given = read.answer;
-        let RowAnswer::Row { sessions, length } = given else {
-            return p;
+        let Ok(there) = read.answer else {
+            return;
         };
-        let outcome = replay_lent(
-            start,
-            end,
-            &net.inputs,
-            &net.input_len,
-            &net.outputs,
-            &net.output_len,
-            &trace[..length as usize],
-            ROW_BUDGET,
-            &mut bindings,
-        );
-        p = write_row(out, p, row, sessions, outcome);
+        let Some(given) = there else {
+            return;
+        };
+        let entries = &trace[..given.length as usize];
+        let outcome = replay_lent(net, entries, ROW_BUDGET, &mut bindings);
+        write_row(out, row, given.sessions, outcome);
         cursor = read.cursor;
-        row += 1;
     }
-    p
 }

@@ -1,32 +1,29 @@
 -- `report` meets its contract: a refusal of the net, or the report of the log. Assumes nothing.
-use mathlib.Core.Path.{sym, ap, ◌∙◌}
-use native.Mathlib.Omega.{arith}
+use Rattle.std.proofs.Common.{sym, ap, ◌∙◌, arith}
 use borrow.Author.Rules.{rules}
-use Rattle.net.specs.Refusals.{Says}
+use Rattle.net.specs.Refusals.{Says, refusal_number}
 use Rattle.net.specs.Orderly.{orderly}
+use Rattle.net.specs.declared.Net.{Net}
 use Rattle.netfile.specs.NetFile.{net_means}
 use Rattle.report.specs.Report.{net_word, log_text}
 use Rattle.report.proofs.TextLaws.{refusal_short}
 use Rattle.report.proofs.ReportLaws.{checked_orderly, net_refused, net_checked}
 use Rattle.report.proofs.report.Goals as goal
 
-pub write_refusal-requires : goal.write_refusal-requires
-write_refusal-requires c = omega (arith, refusal_short net_word c.in-Refused.number c.in-Refused.place)
-
-pub returns-in-Refused : goal.returns-in-Refused
-returns-in-Refused c =
-    let s = c.args in
-    let r = c.read_checked-read in
-    rw (net_refused s.net_text.now s.log_text.now c.in-Refused.number c.in-Refused.place (sym r.ensures.says ∙ ap net_means c.in-Refused.is)) c.write_refusal.ensures
-
 pub report_log-requires : goal.report_log-requires
-report_log-requires c =
-    let s = c.args in
-    let r = c.read_checked-read in
-    (ap orderly r.ensures.gives ∙ checked_orderly s.net_text.now, search rules)
+report_log-requires c = (ap orderly c.read_checked-read.ensures.gives ∙ checked_orderly c.args.net_text.now, search rules)
 
-pub returns : goal.returns
-returns c =
-    let s = c.args in
+pub write_refusal-requires : goal.write_refusal-requires
+write_refusal-requires c = omega (arith, refusal_short net_word (refusal_number c.in-Err.refused.refusal) c.in-Err.refused.place)
+
+pub returns-in-Ok : goal.returns-in-Ok
+returns-in-Ok c =
+    let a = c.args in
     let r = c.read_checked-read in
-    rw (net_checked s.net_text.now s.log_text.now (ap (λ (y : Says). y.ok) (sym r.ensures.says ∙ ap net_means c.in_default.is)) ∙ ap (λ n. log_text n s.log_text.now) (sym r.ensures.gives)) c.report_log.ensures
+    rw (net_checked a.net_text.now a.log_text.now (ap (λ (y : Says). y.ok) (sym r.ensures.says ∙ ap net_means c.in-Ok.is)) ∙ ap (λ (n : Net). log_text n a.log_text.now) (sym r.ensures.gives)) c.report_log.ensures
+
+pub returns-in-Err : goal.returns-in-Err
+returns-in-Err c =
+    let a = c.args in
+    let r = c.read_checked-read in
+    rw (net_refused a.net_text.now a.log_text.now (refusal_number c.in-Err.refused.refusal) c.in-Err.refused.place (sym r.ensures.says ∙ ap net_means c.in-Err.is)) c.write_refusal.ensures

@@ -1,15 +1,15 @@
 -- `write_rows` meets its contract. The loop's invariant: the reader stands at row `row`, and the lines of the rows from there
 -- on, stored, give the buffer with all lines stored. Assumes nothing.
-use Prim.Native.Nat.{◌+◌, ◌-◌}
-use mathlib.Core.Path.{refl, ◌∙◌}
-use native.Mathlib.Omega.{arith}
+use Rattle.std.proofs.Common.{◌≡◌, ◌+◌, ◌-◌, refl, ap, ◌∙◌, length, arith}
+use Rattle.std.specs.Prelude.{Result, Ok, Option, Some, None}
+use Rattle.net.specs.declared.refusal.Refused.{Refused}
+use Rattle.logfile.specs.declared.Row.{Row}
 use borrow.Author.Rules.{rules}
-use lib.ListN.{length}
 use Rattle.text.proofs.StoreLaws.{storing_start, storing_room, storing_more, storing_end}
-use Rattle.net.specs.declared.Side.TheVariants.{Input, Output}
+use Rattle.net.specs.declared.sides.Side.TheVariants.{Input, Output}
 use Rattle.net.proofs.OrderlyLaws.{orderly_arrays}
 use Rattle.logfile.specs.Limits.{log_rows}
-use Rattle.search.specs.Backtrack.{outcome_means}
+use Rattle.search.specs.Replay.{outcome_means}
 use Rattle.report.specs.Report.{report_line, rows_text}
 use Rattle.report.proofs.AnswerLaws.{front_is, row-with_room}
 use Rattle.report.proofs.TextLaws.{rows_done, rows_none}
@@ -17,53 +17,72 @@ use Rattle.report.proofs.StandingLaws.{standing-start, standing_row, standing_no
 use Rattle.report.proofs.RowLaws.{row_line}
 use Rattle.report.proofs.write_rows.Goals as goal
 
+-- no row is there
+no_given : (there : Option Row) (a : Result (Option Row) Refused) → a ≡ Ok there → there ≡ None → (r : Row) → a ≡ Ok (Some r) → ⊥
+no_given there a e n r q = cc
+
 pub loop-row-init : goal.loop-row-init
 loop-row-init c =
-    let s = c.args in
-    (standing-start s.text.now _ _ c.start-cursor.ensures refl, refl, storing_start s.out.now s.at (rows_text s.net s.text.now log_rows 1) (rows_text s.net s.text.now log_rows 1) c.requires.log_rows_in_bounds refl)
+    let a = c.args in
+    (standing-start a.text.now _ _ c.start-cursor.ensures refl, refl, storing_start a.out.now (rows_text a.net.now a.text.now log_rows 1) (rows_text a.net.now a.text.now log_rows 1) c.requires.room refl)
 
 pub returns-in_default : goal.returns-in_default
 returns-in_default c =
-    let s = c.args in
+    let a = c.args in
     let l = c.loop-row in
     let x = c.next_row-read in
-    storing_end s.out.now s.at (rows_text s.net s.text.now log_rows 1) l.out l.p (rows_text s.net s.text.now (log_rows + 1 - l.row) l.row) l.invariant.2 (rows_none s.net s.text.now (log_rows + 1 - l.row) l.row l.invariant.0.low (standing_none s.text.now l.row l.cursor l.trace l.invariant.0 x.result x.new.out x.ensures c.in_default.not-Row))
+    storing_end _ _ _ _ l.invariant.2
+    (rows_none a.net.now a.text.now (log_rows + 1 - l.row) l.row l.invariant.0.low (standing_none a.text.now l.row l.cursor l.trace l.invariant.0 x.result x.new.out x.ensures (λ r. c.in_default.not-Ok (Some r))))
 
-pub replay_lent-outcome-requires : goal.replay_lent-outcome-requires
-replay_lent-outcome-requires c =
-    let s = c.args in
+pub returns-in_default-there : goal.returns-in_default-there
+returns-in_default-there c =
+    let a = c.args in
     let l = c.loop-row in
     let x = c.next_row-read in
-    let g = standing_row s.text.now l.row l.cursor l.trace l.invariant.0 x.result x.new.out x.ensures c.in-Row.sessions c.in-Row.length c.in-Row.is in
-    let o = c.requires.net_value in
-    record {
-      sides = (orderly_arrays s.net o Input, orderly_arrays s.net o Output);
-      trace_with_room = rw (front_is g.entries l.trace x.new.out c.in-Row.length g.in_front g.as_long) (row-with_room s.text.now l.row c.in-Row.sessions g.entries (length l.bindings) g.is_row (omega (arith, l.invariant.1)));
-    }
+    storing_end _ _ _ _ l.invariant.2
+    (rows_none a.net.now a.text.now (log_rows + 1 - l.row) l.row l.invariant.0.low (standing_none a.text.now l.row l.cursor l.trace l.invariant.0 x.result x.new.out x.ensures (no_given c.in-Ok.there x.result.answer c.in-Ok.is c.in_default-there.is)))
 
-pub write_row-p-requires : goal.write_row-p-requires
-write_row-p-requires c =
-    let s = c.args in
+pub replay_lent-outcome-requires-clause-sides : goal.replay_lent-outcome-requires-clause-sides
+replay_lent-outcome-requires-clause-sides c = (orderly_arrays c.args.net.now c.requires.orderly Input, orderly_arrays c.args.net.now c.requires.orderly Output)
+
+pub replay_lent-outcome-requires-clause-trace_with_room : goal.replay_lent-outcome-requires-clause-trace_with_room
+replay_lent-outcome-requires-clause-trace_with_room c =
+    let t = c.args.text.now in
     let l = c.loop-row in
     let x = c.next_row-read in
-    let g = standing_row s.text.now l.row l.cursor l.trace l.invariant.0 x.result x.new.out x.ensures c.in-Row.sessions c.in-Row.length c.in-Row.is in
-    let a = c.replay_lent-outcome in
-    let e = row_line s.net s.text.now l.row c.in-Row.sessions c.in-Row.length l.trace x.new.out g (omega (arith, c.loop-row-test.true)) a.result l.bindings a.new.out a.ensures in
-    storing_room s.out.now s.at (rows_text s.net s.text.now log_rows 1) l.out l.p (rows_text s.net s.text.now (log_rows + 1 - l.row) l.row) l.invariant.2 (report_line l.row c.in-Row.sessions (outcome_means a.result)) (rows_text s.net s.text.now (log_rows + 1 - (l.row + 1)) (l.row + 1)) e
+    let given = c.in-Some.given in
+    let g = standing_row t l.row l.cursor l.trace l.invariant.0 x.result x.new.out x.ensures given (c.in-Ok.is ∙ ap (λ (o : Option Row). Ok o) c.in-Some.is) in
+    rw (front_is g.entries l.trace x.new.out given.length g.in_front g.as_long) (row-with_room t l.row given.sessions g.entries (length l.bindings) g.is_row (omega (arith, l.invariant.1)))
+
+pub write_row-requires : goal.write_row-requires
+write_row-requires c =
+    let net = c.args.net.now in
+    let t = c.args.text.now in
+    let l = c.loop-row in
+    let x = c.next_row-read in
+    let given = c.in-Some.given in
+    let o = c.replay_lent-outcome in
+    let g = standing_row t l.row l.cursor l.trace l.invariant.0 x.result x.new.out x.ensures given (c.in-Ok.is ∙ ap (λ (o : Option Row). Ok o) c.in-Some.is) in
+    let e = row_line net t l.row given l.trace x.new.out g c.loop-row-test.true o.result l.bindings o.new.out o.ensures in
+    storing_room _ _ _ _ l.invariant.2 (report_line l.row given.sessions (outcome_means o.result)) (rows_text net t (log_rows + 1 - (l.row + 1)) (l.row + 1)) e
 
 pub loop-row-preserved : goal.loop-row-preserved
 loop-row-preserved c =
-    let s = c.args in
+    let net = c.args.net.now in
+    let t = c.args.text.now in
     let l = c.loop-row in
     let x = c.next_row-read in
-    let g = standing_row s.text.now l.row l.cursor l.trace l.invariant.0 x.result x.new.out x.ensures c.in-Row.sessions c.in-Row.length c.in-Row.is in
-    let a = c.replay_lent-outcome in
-    let e = row_line s.net s.text.now l.row c.in-Row.sessions c.in-Row.length l.trace x.new.out g (omega (arith, c.loop-row-test.true)) a.result l.bindings a.new.out a.ensures in
-    let w = c.write_row-p in
-    (standing_more s.text.now l.row l.cursor l.trace l.invariant.0 x.result x.new.out x.ensures (omega (arith, c.loop-row-test.true)) c.in-Row.sessions c.in-Row.length c.in-Row.is, a.auto.out ∙ l.invariant.1, storing_more s.out.now s.at (rows_text s.net s.text.now log_rows 1) l.out l.p (rows_text s.net s.text.now (log_rows + 1 - l.row) l.row) l.invariant.2 (report_line l.row c.in-Row.sessions (outcome_means a.result)) (rows_text s.net s.text.now (log_rows + 1 - (l.row + 1)) (l.row + 1)) w.new.out w.result e w.ensures)
+    let given = c.in-Some.given in
+    let o = c.replay_lent-outcome in
+    let is = c.in-Ok.is ∙ ap (λ (o : Option Row). Ok o) c.in-Some.is in
+    let g = standing_row t l.row l.cursor l.trace l.invariant.0 x.result x.new.out x.ensures given is in
+    let e = row_line net t l.row given l.trace x.new.out g c.loop-row-test.true o.result l.bindings o.new.out o.ensures in (
+      standing_more t l.row l.cursor l.trace l.invariant.0 x.result x.new.out x.ensures c.loop-row-test.true given is,
+      o.auto.out ∙ l.invariant.1,
+      storing_more _ _ _ _ l.invariant.2 (report_line l.row given.sessions (outcome_means o.result)) (rows_text net t (log_rows + 1 - (l.row + 1)) (l.row + 1)) c.write_row.new.out e c.write_row.ensures,
+    )
 
 pub returns : goal.returns
 returns c =
-    let s = c.args in
     let l = c.loop-row in
-    storing_end s.out.now s.at (rows_text s.net s.text.now log_rows 1) l.out l.p (rows_text s.net s.text.now (log_rows + 1 - l.row) l.row) l.invariant.2 (rows_done s.net s.text.now l.row (search rules))
+    storing_end _ _ _ _ l.invariant.2 (rows_done c.args.net.now c.args.text.now l.row (search rules))

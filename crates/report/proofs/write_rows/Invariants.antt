@@ -1,6 +1,4 @@
-use Prim.Native.Nat.{◌+◌, ◌-◌, ◌*◌}
-use mathlib.Core.Path.{◌≡◌}
-use lib.ListN.{length}
+use Rattle.std.proofs.Common.{◌≡◌, ◌+◌, ◌-◌, ◌*◌, length}
 use Rattle.obligations.specs.Limits.{positions}
 use Rattle.text.proofs.StoreLaws.{Storing}
 use Rattle.logfile.specs.Limits.{log_rows}
@@ -10,7 +8,4 @@ use Rattle.report.proofs.write_rows.Given as goal
 
 abbrev pub invariant-loop-row : goal.invariant-loop-row
 invariant-loop-row l =
-    Standing l.text l.row l.cursor l.trace × (length l.bindings ≡ 3 * positions) × Storing l.initial.out l.initial.p (rows_text l.net l.text log_rows 1) l.out l.p (rows_text l.net l.text (log_rows + 1 - l.row) l.row)
-
-abbrev pub decreases-loop-row : goal.decreases-loop-row
-decreases-loop-row l = log_rows + 1 - l.row
+    Standing l.text l.row l.cursor l.trace × (length l.bindings ≡ 3 * positions) × Storing l.initial.out (rows_text l.net l.text log_rows 1) l.out (rows_text l.net l.text (log_rows + 1 - l.row) l.row)
