@@ -7,8 +7,7 @@ ghost use Rattle.net.specs.Orderly.{orderly};
 ghost use Rattle.std.specs.Prelude.{◌≡◌, true};
 
 use files::{print, read_file};
-use net::Net;
-use netfile::NetAnswer;
+use net::{Net, Refused};
 use report::{FILE_BYTES, REPORT_ROOM, read_checked, report_log, write_refusal};
 use std::rt::Files;
 
@@ -21,17 +20,16 @@ pub fn print_report<R: Files + Print + Eprint>(rt: &R, net_path: &[u8], log_path
     let mut text = [0u8; FILE_ROOM];
     let n = read_file(rt, net_path, &mut text);
     let read = read_checked(&text[..n]);
-    let answer = read.answer;
-    if let NetAnswer::Refused { number, place } = answer {
-        return print_refusal(rt, number, place);
+    match read.answer {
+        Ok(()) => print_log(rt, read.net, log_path, &mut text),
+        Err(refused) => print_refusal(rt, refused),
     }
-    print_log(rt, read.net, log_path, &mut text)
 }
 
 // Prints the refusal of a net file.
-fn print_refusal<R: Print + Eprint>(rt: &R, number: u32, line: u32) -> bool {
+fn print_refusal<R: Print + Eprint>(rt: &R, refused: Refused) -> bool {
     let mut out = [0u8; REPORT_ROOM];
-    let n = write_refusal(&mut out, b"net", number, line);
+    let n = write_refusal(&mut out, b"net", refused);
     print(rt, &out[..n])
 }
 
