@@ -1,58 +1,27 @@
 // The numbers of a script's line, and numbers as words.
 
-ghost use Rattle.std.specs.Prelude.{◌≤◌, length};
-ghost use Rattle.io.specs.Counts.{IsPrefixLen};
+use text::decimal::read_wide;
+use text::fields::Fields;
 
-use text::bytes::find_byte;
-use text::decimal::{WideNumber, read_wide};
+// A line has at most this many numbers.
+pub const NUMBERS: usize = 1024;
 
-// A word has 32 bits.
-const MOST_WORD: u64 = 4294967295;
-
-// The most that 64 bits hold.
-const MOST: u64 = 18446744073709551615;
-
-// Reads the numbers of script[w..e], each behind one space, and returns how many it read: it stops at a field that is no
-// number.
-pub fn read_numbers(script: &[u8], w: usize, e: usize, numbers: &mut [u64]) -> usize
-    requires { (w ≤ e) × (e ≤ length script.now) }
-    ensures { IsPrefixLen result numbers.new }
-{
-    let mut k = w;
-    let mut n: usize = 0;
-    while k < e {
-        if numbers.len() <= n {
-            return n;
-        }
-        let g = find_byte(script, k + 1, e, b' ');
-        let number = read_wide(script, k + 1, g, MOST);
-        let WideNumber::Value(v) = number else {
-            return n;
-        };
-        numbers[n] = v;
+// Reads the numbers that fields say into the buffer's front: none, if one of them says no number or there are more than the buffer
+// holds.
+pub fn read_numbers<'n>(fields: Fields, buf: &'n mut [u64]) -> Option<&'n [u64]> {
+    let mut n = 0;
+    for field in fields {
+        *buf.get_mut(n)? = read_wide(field, u64::MAX)?;
         n += 1;
-        k = g;
     }
-    n
+    buf.get(..n)
 }
 
-// Copies the numbers from index `from` on, as words, and returns how many it copied: it stops at one that is no word.
-pub fn words_from(numbers: &[u64], from: usize, words: &mut [u32]) -> usize
-    ensures { IsPrefixLen result words.new }
-{
-    let mut n = 0;
-    let mut i = from;
-    while i < numbers.len() {
-        if words.len() <= n {
-            return n;
-        }
-        let number = numbers[i];
-        if MOST_WORD < number {
-            return n;
-        }
-        words[n] = number as u32;
-        n += 1;
-        i += 1;
+// Copies numbers, as words, to the buffer's front: none, if one of them is no word or there are more than the buffer holds.
+pub fn words_from<'w>(numbers: &[u64], buf: &'w mut [u32]) -> Option<&'w [u32]> {
+    let words = buf.get_mut(..numbers.len())?;
+    for (word, number) in words.iter_mut().zip(numbers) {
+        *word = u32::try_from(*number).ok()?;
     }
-    n
+    Some(words)
 }

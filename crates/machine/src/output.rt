@@ -1,56 +1,67 @@
-// What is to be written to standard output, gathered in a buffer that is written when it is full. `at` is how many bytes
-// stand in it; each function returns how many stand there after it.
+// What is to be written to standard output, gathered in a buffer that is written when it is full.
 
-ghost use Rattle.std.specs.Prelude.{◌≤◌, length};
+ghost use Rattle.std.specs.Prelude.{◌≤◌};
+ghost use Rattle.machine.specs.declared.output.TheConstants.{OUT_ROOM};
 
-use text::bytes::write_bytes;
-use text::decimal::write_number;
+use crate::answer::{Answer, Reply};
+use std::fmt;
+use std::fmt::Write;
 
-// Adds bytes. More than the buffer holds are written at once.
-pub fn append<R: Print + Eprint>(rt: &R, out: &mut [u8], at: usize, bytes: &[u8]) -> usize
-    requires { at ≤ length out.old }
-    ensures { result ≤ length out.new }
-{
-    if bytes.len() <= out.len() - at {
-        return write_bytes(out, at, bytes);
-    }
-    flush(rt, out, at);
-    if bytes.len() <= out.len() {
-        return write_bytes(out, 0, bytes);
-    }
-    files::print(rt, bytes);
-    0
+// Room for answers.
+const OUT_ROOM: usize = 65536;
+
+// What is gathered: the first `len` bytes of the buffer.
+#[derive(Drop)]
+pub struct Output<'a, R> {
+    rt: &'a R,
+    buf: [u8; OUT_ROOM],
+    len: usize,
+    ghost within: { len ≤ OUT_ROOM },
 }
 
-// Adds a number in decimal, with a space before it.
-pub fn append_number<R: Print + Eprint>(rt: &R, out: &mut [u8], at: usize, n: u64) -> usize
-    requires { at ≤ length out.old }
-    ensures { result ≤ length out.new }
-{
-    let mut digits = [0u8; 20];
-    let k = write_number(&mut digits, 0, n);
-    let p = append(rt, out, at, b" ");
-    append(rt, out, p, &digits[..k])
-}
-
-// Adds words in decimal, each with a space before it.
-pub fn append_words<R: Print + Eprint>(rt: &R, out: &mut [u8], at: usize, words: &[u32]) -> usize
-    requires { at ≤ length out.old }
-    ensures { result ≤ length out.new }
-{
-    let mut p = at;
-    let mut k = 0;
-    while k < words.len() {
-        let word = words[k];
-        p = append_number(rt, out, p, word as u64);
-        k += 1;
+impl<'a, R: Print + Eprint> Output<'a, R> {
+    pub fn new(rt: &'a R) -> Output<'a, R> {
+        Output {
+            rt,
+            buf: [0; OUT_ROOM],
+            len: 0,
+        }
     }
-    p
+
+    // Adds a reply's line, and the bytes that it shows with the end of a line behind them.
+    pub fn reply(&mut self, reply: Reply) {
+        // Adding never fails.
+        let _ = writeln!(self, "{reply}");
+        if let Answer::Shown(text) = reply.answer {
+            self.bytes(text);
+            self.bytes(b"\n");
+        }
+    }
+
+    // Adds bytes. More than the buffer holds are written at once.
+    fn bytes(&mut self, bytes: &[u8]) {
+        if OUT_ROOM - self.len < bytes.len() {
+            self.flush();
+        }
+        if OUT_ROOM - self.len < bytes.len() {
+            files::print(self.rt, bytes);
+            return;
+        }
+        let end = self.len + bytes.len();
+        self.buf[self.len..end].copy_from_slice(bytes);
+        self.len = end;
+    }
+
+    // Writes what is gathered.
+    pub fn flush(&mut self) {
+        files::print(self.rt, &self.buf[..self.len]);
+        self.len = 0;
+    }
 }
 
-// Writes what stands in the buffer.
-pub fn flush<R: Print + Eprint>(rt: &R, out: &[u8], at: usize)
-    requires { at ≤ length out.now }
-{
-    files::print(rt, &out[..at]);
+impl<'a, R: Print + Eprint> fmt::Write for Output<'a, R> {
+    fn write_str(&mut self, s: &str) -> fmt::Result {
+        self.bytes(s.as_bytes());
+        Ok(())
+    }
 }

@@ -1,175 +1,88 @@
 // A line of a script: the command that its word names is run with its numbers.
 
-ghost use Rattle.std.specs.Prelude.{◌≤◌, ◌<◌, length};
+ghost use Rattle.std.specs.Prelude.{◌≤◌, length};
 
+use crate::script::Script;
+use crate::state::{State, Text};
 use crate::{net_calls, sequence_calls, table_calls};
-use machine::answer::Answer;
-use machine::numbers::{read_numbers, words_from};
-use machine::registers;
-use machine::registers::{RECORDS, REGISTERS};
-use text::bytes::{count_byte, find_byte, same_bytes};
+use machine::answer::{Answer, Reply};
+use machine::numbers::{NUMBERS, read_numbers, words_from};
+use machine::registers::{Register, Registers};
+use text::fields::split;
 
-// Runs the line script[i..e]. But for a comment, one that isn't ended by LF is no command, nor is one with a field that is
-// no number: there are as many numbers as spaces.
-pub fn run_line(
-    script: &[u8],
-    i: usize,
-    e: usize,
-    records: &mut [u32; RECORDS],
-    text: &mut [u8],
-    text_len: &mut usize,
-    words: &mut [u32],
-    bytes: &mut [u8],
-) -> Answer
-    requires i_le_e { (i ≤ e) × (e ≤ length script.now) × (i < length script.now) }
-    requires text_len_in_bounds { text_len.old ≤ length text.old }
-    ensures { text_len.new ≤ length text.new }
+// Runs a line, unless it is a comment. One with a field that is no number is no command.
+pub fn run_line<'m>(state: &'m mut State, line: &[u8], script: &mut Script) -> Option<Reply<'m>>
+    ensures { length script.new.rest.now ≤ length script.old.rest.now }
 {
-    if script[i] == b'#' {
-        return Answer::Silent;
+    if line.starts_with(b"#") {
+        return None;
     }
-    if e == script.len() {
-        return Answer::Bad;
+    let mut fields = split(line, b' ');
+    let word = fields.next()?;
+    let mut buf = [0u64; NUMBERS];
+    match read_numbers(fields, &mut buf) {
+        Some(numbers) => Some(run_command(state, word, numbers, script)),
+        None => Some(Answer::Bad.into()),
     }
-    let mut numbers = [0u64; 1024];
-    let w = find_byte(script, i, e, b' ');
-    let n = read_numbers(script, w, e, &mut numbers);
-    if n != count_byte(script, w, e, b' ') {
-        return Answer::Bad;
-    }
-    if same_bytes(script, i, w, b"text") {
-        return table_calls::text(script, e + 1, &numbers[..n], text, text_len);
-    }
-    if same_bytes(script, i, w, b"writenet") {
-        return table_calls::writenet(records, &numbers[..n], text, text_len, bytes);
-    }
-    run_command(
-        script,
-        i,
-        w,
-        &numbers[..n],
-        records,
-        &text[..*text_len],
-        words,
-    )
 }
 
-// Runs the command of the word script[i..w], one that leaves the text register as it is. But for `show` and `readrow` its
-// first number is a register's.
-fn run_command(
-    script: &[u8],
-    i: usize,
-    w: usize,
+// Runs the command that a word names.
+fn run_command<'m>(
+    state: &'m mut State,
+    word: &[u8],
     numbers: &[u64],
-    records: &mut [u32; RECORDS],
-    text: &[u8],
-    words: &mut [u32],
-) -> Answer
-    requires { (i ≤ w) × (w ≤ length script.now) }
+    script: &mut Script,
+) -> Reply<'m>
+    ensures { length script.new.rest.now ≤ length script.old.rest.now }
 {
-    if same_bytes(script, i, w, b"show") {
-        return table_calls::show(numbers);
+    let State {
+        registers,
+        text,
+        words,
+        bytes,
+    } = state;
+    match word {
+        b"text" => table_calls::text(text, numbers, script).into(),
+        b"show" => table_calls::show(text, numbers).into(),
+        b"readrow" => table_calls::readrow(text, numbers, words),
+        b"writenet" => table_calls::writenet(registers, numbers, text, bytes),
+        b"replay" => sequence_calls::replay(registers, numbers, words),
+        _ => run_on_register(registers, text, words, word, numbers).into(),
     }
-    if same_bytes(script, i, w, b"readrow") {
-        return table_calls::readrow(numbers, text, words);
-    }
-    if numbers.len() < 1 {
-        return Answer::Bad;
-    }
-    let first = numbers[0];
-    if REGISTERS as u64 <= first {
-        return Answer::Bad;
-    }
-    let r = first as u32;
-    if same_bytes(script, i, w, b"replay") {
-        return sequence_calls::replay(records, r, numbers, words);
-    }
-    let mut args = [0u32; 1024];
-    let n = words_from(numbers, 1, &mut args);
-    if n != numbers.len() - 1 {
-        return Answer::Bad;
-    }
-    if same_bytes(script, i, w, b"readnet") {
-        return table_calls::readnet(records, r, &args[..n], text);
-    }
-    run_on_record(script, i, w, records, r, &args[..n], words)
 }
 
-// The commands on registers that are no calls.
-fn run_on_record(
-    script: &[u8],
-    i: usize,
-    w: usize,
-    records: &mut [u32; RECORDS],
-    r: u32,
-    args: &[u32],
-    words: &mut [u32],
-) -> Answer
-    requires { (i ≤ w) × (w ≤ length script.now) × (r < 4) }
-{
-    if same_bytes(script, i, w, b"poke") {
-        return registers::poke(records, r, args);
+// Runs one of the other commands: its first number is a register's, and the rest are words.
+fn run_on_register<'m>(
+    registers: &mut Registers,
+    text: &Text,
+    words: &'m mut [u32],
+    word: &[u8],
+    numbers: &[u64],
+) -> Answer<'m> {
+    let [first, rest @ ..] = numbers else {
+        return Answer::Bad;
+    };
+    let Some(r) = Register::new(*first) else {
+        return Answer::Bad;
+    };
+    let mut buf = [0u32; NUMBERS];
+    let Some(args) = words_from(rest, &mut buf) else {
+        return Answer::Bad;
+    };
+    match word {
+        b"poke" => registers.poke(r, args),
+        b"peek" => registers.peek(r, args, words),
+        b"copy" => net_calls::copy(registers, r, args),
+        b"same" => net_calls::same(registers, r, args),
+        b"fresh" => net_calls::fresh(registers, r, args),
+        b"put" => net_calls::put(registers, r, args),
+        b"contained" => net_calls::contained(registers, r, args),
+        b"check" => net_calls::check(registers, r, args),
+        b"judge" => sequence_calls::judge(registers, r, args),
+        b"peak" => sequence_calls::peak(registers, r, args),
+        b"learn" => sequence_calls::learn(registers, r, args),
+        b"follow" => sequence_calls::follow(registers, r, args),
+        b"readnet" => table_calls::readnet(registers, r, args, text),
+        _ => Answer::Bad,
     }
-    if same_bytes(script, i, w, b"peek") {
-        return registers::peek(records, r, args, words);
-    }
-    if same_bytes(script, i, w, b"copy") {
-        return registers::copy(records, r, args);
-    }
-    if same_bytes(script, i, w, b"same") {
-        return registers::same(records, r, args);
-    }
-    run_on_net(script, i, w, records, r, args)
-}
-
-// The commands that call on a net.
-fn run_on_net(
-    script: &[u8],
-    i: usize,
-    w: usize,
-    records: &mut [u32; RECORDS],
-    r: u32,
-    args: &[u32],
-) -> Answer
-    requires { (i ≤ w) × (w ≤ length script.now) × (r < 4) }
-{
-    if same_bytes(script, i, w, b"fresh") {
-        return net_calls::fresh(records, r, args);
-    }
-    if same_bytes(script, i, w, b"put") {
-        return net_calls::put(records, r, args);
-    }
-    if same_bytes(script, i, w, b"contained") {
-        return net_calls::contained(records, r, args);
-    }
-    if same_bytes(script, i, w, b"check") {
-        return net_calls::check(records, r, args);
-    }
-    run_on_sequence(script, i, w, records, r, args)
-}
-
-// The commands that call on a sequence or a trace, but for replay.
-fn run_on_sequence(
-    script: &[u8],
-    i: usize,
-    w: usize,
-    records: &mut [u32; RECORDS],
-    r: u32,
-    args: &[u32],
-) -> Answer
-    requires { (i ≤ w) × (w ≤ length script.now) × (r < 4) }
-{
-    if same_bytes(script, i, w, b"judge") {
-        return sequence_calls::judge(records, r, args);
-    }
-    if same_bytes(script, i, w, b"peak") {
-        return sequence_calls::peak(records, r, args);
-    }
-    if same_bytes(script, i, w, b"learn") {
-        return sequence_calls::learn(records, r, args);
-    }
-    if same_bytes(script, i, w, b"follow") {
-        return sequence_calls::follow(records, r, args);
-    }
-    Answer::Bad
 }

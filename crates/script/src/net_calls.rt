@@ -1,87 +1,70 @@
-// Commands that call fresh, put, contained and check, on register r. A wrong number of arguments makes the line no command.
+// Commands on the nets of registers, and those that call fresh, put, contained and check. A wrong number of arguments makes
+// the line no command.
 
-ghost use Rattle.std.specs.Prelude.{◌<◌};
+use machine::answer::{Answer, answered};
+use machine::registers::{Register, Registers};
+use net::Side;
 
-use machine::answer::{Answer, refused};
-use machine::registers::{RECORDS, REGISTERS, load, store};
-use net::{ContainedAnswer, FreshAnswer, PutAnswer, Side};
-use walks::CheckAnswer;
+// copy R S: register R becomes register S.
+pub fn copy(registers: &mut Registers, r: Register, args: &[u32]) -> Answer<'static> {
+    let Some(s) = other(args) else {
+        return Answer::Bad;
+    };
+    registers.set(r, *registers.get(s));
+    Answer::Done
+}
+
+// same R S: whether two registers are equal in every word.
+pub fn same(registers: &Registers, r: Register, args: &[u32]) -> Answer<'static> {
+    let Some(s) = other(args) else {
+        return Answer::Bad;
+    };
+    let same = registers.get(r) == registers.get(s);
+    Answer::Value(u64::from(same))
+}
 
 // fresh R S E: register R becomes what fresh of S and E returns.
-pub fn fresh(records: &mut [u32; RECORDS], r: u32, args: &[u32]) -> Answer
-    requires { r < 4 }
-{
-    if args.len() != 2 {
+pub fn fresh(registers: &mut Registers, r: Register, args: &[u32]) -> Answer<'static> {
+    let [start, end] = *args else {
         return Answer::Bad;
-    }
-    let made = net::fresh(args[0], args[1]);
-    store(records, r, made.net);
-    let answer = made.answer;
-    match answer {
-        FreshAnswer::Made => Answer::Done,
-        FreshAnswer::Refused { number, place } => refused(number, place),
-    }
+    };
+    let made = registers.keep(r, net::fresh(start, end));
+    answered(made, |_| Answer::Done)
 }
 
 // put R SIDE A SET: put on register R.
-pub fn put(records: &mut [u32; RECORDS], r: u32, args: &[u32]) -> Answer
-    requires { r < 4 }
-{
-    if args.len() != 3 {
-        return Answer::Bad;
-    }
-    if args[0] == 0 {
-        return put_on(records, r, Side::Input, args[1], args[2]);
-    }
-    if args[0] == 1 {
-        return put_on(records, r, Side::Output, args[1], args[2]);
-    }
-    Answer::Bad
-}
-
-// Puts a set on an activity's side in register r.
-fn put_on(records: &mut [u32; RECORDS], r: u32, side: Side, a: u32, set: u32) -> Answer
-    requires { r < 4 }
-{
-    let done = net::put(load(records, r), side, a, set);
-    store(records, r, done.net);
-    let answer = done.answer;
-    match answer {
-        PutAnswer::New => Answer::Value { value: 1 },
-        PutAnswer::Present => Answer::Value { value: 0 },
-        PutAnswer::Refused { number, place } => refused(number, place),
-    }
+pub fn put(registers: &mut Registers, r: Register, args: &[u32]) -> Answer<'static> {
+    let (side, a, set) = match *args {
+        [0, a, set] => (Side::Input, a, set),
+        [1, a, set] => (Side::Output, a, set),
+        _ => return Answer::Bad,
+    };
+    let put = registers.keep(r, net::put(*registers.get(r), side, a, set));
+    answered(put, |new| Answer::Value(u64::from(new)))
 }
 
 // contained R S: is R contained in S.
-pub fn contained(records: &[u32; RECORDS], r: u32, args: &[u32]) -> Answer
-    requires { r < 4 }
-{
-    if args.len() != 1 {
+pub fn contained(registers: &Registers, r: Register, args: &[u32]) -> Answer<'static> {
+    let Some(s) = other(args) else {
         return Answer::Bad;
-    }
-    let s = args[0];
-    if REGISTERS <= s {
-        return Answer::Bad;
-    }
-    let answer = net::contained(load(records, r), load(records, s));
-    match answer {
-        ContainedAnswer::Yes => Answer::Value { value: 1 },
-        ContainedAnswer::No => Answer::Value { value: 0 },
-        ContainedAnswer::Refused { number, place } => refused(number, place),
-    }
+    };
+    let contained = net::contained(*registers.get(r), *registers.get(s));
+    answered(contained, |yes| Answer::Value(u64::from(yes)))
 }
 
 // check R: net check.
-pub fn check(records: &[u32; RECORDS], r: u32, args: &[u32]) -> Answer
-    requires { r < 4 }
-{
-    if args.len() != 0 {
+pub fn check(registers: &Registers, r: Register, args: &[u32]) -> Answer<'static> {
+    if !args.is_empty() {
         return Answer::Bad;
     }
-    let answer = walks::check(load(records, r));
-    match answer {
-        CheckAnswer::Passed { arcs } => Answer::Value { value: arcs as u64 },
-        CheckAnswer::Refused { number, place } => refused(number, place),
-    }
+    let checked = walks::check(*registers.get(r));
+    answered(checked, |arcs| Answer::Value(u64::from(arcs)))
+}
+
+// The register that the one argument names.
+fn other(args: &[u32]) -> Option<Register> {
+    let [s] = *args else {
+        return None;
+    };
+    Register::new(u64::from(s))
 }

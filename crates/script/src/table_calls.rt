@@ -1,160 +1,109 @@
-// Commands that read and write the text register: net reading, net writing and row reading. `text_len`
-// is how many bytes the text has.
+// Commands that read and write the text register: net reading, net writing and row reading.
 
-ghost use Rattle.std.specs.Prelude.{◌≤◌, ◌<◌, length};
+ghost use Rattle.std.specs.Prelude.{◌≤◌, length};
 
-use logfile::RowAnswer;
-use machine::answer::{Answer, refused};
-use machine::buffers::{bytes_untouched, fill_bytes, fill_words, words_untouched};
-use machine::registers::{RECORDS, REGISTERS, load, store};
-use net::Net;
-use netfile::{NetAnswer, WriteAnswer};
-use text::bytes::write_bytes;
+use crate::script::Script;
+use crate::state::Text;
+use logfile::Row;
+use machine::answer::{Answer, Reply, answered};
+use machine::buffers::{fill, is_untouched};
+use machine::registers::{Register, Registers};
 
 // readnet R: reads the text as a net file; R becomes what it returns.
-pub fn readnet(records: &mut [u32; RECORDS], r: u32, args: &[u32], text: &[u8]) -> Answer
-    requires { r < 4 }
-{
-    if args.len() != 0 {
+pub fn readnet(
+    registers: &mut Registers,
+    r: Register,
+    args: &[u32],
+    text: &Text,
+) -> Answer<'static> {
+    if !args.is_empty() {
         return Answer::Bad;
     }
-    let read = netfile::read_net(text);
-    store(records, r, read.net);
-    let answer = read.answer;
-    match answer {
-        NetAnswer::Read => Answer::Done,
-        NetAnswer::Refused { number, place } => refused(number, place),
-    }
+    let read = registers.keep(r, netfile::read_net(text.as_slice()));
+    answered(read, |_| Answer::Done)
 }
 
 // writenet R N: writes R into a buffer of N bytes; if that isn't refused the text register becomes what was written.
 pub fn writenet(
-    records: &[u32; RECORDS],
+    registers: &Registers,
     numbers: &[u64],
-    text: &mut [u8],
-    text_len: &mut usize,
+    text: &mut Text,
     bytes: &mut [u8],
-) -> Answer
-    requires { text_len.old ≤ length text.old }
-    ensures { text_len.new ≤ length text.new }
-{
-    if numbers.len() != 2 {
-        return Answer::Bad;
+) -> Reply<'static> {
+    let [r, room] = *numbers else {
+        return Answer::Bad.into();
+    };
+    let Some(r) = Register::new(r) else {
+        return Answer::Bad.into();
+    };
+    let Some(lent) = bytes.get_mut(..room as usize) else {
+        return Answer::Bad.into();
+    };
+    fill(lent);
+    let written = netfile::write_net(*registers.get(r), lent);
+    let length = written.map_or(0, |n| n as usize);
+    if let (Ok(_), Some(front)) = (written, lent.get(..length)) {
+        text.set(front);
     }
-    let r = numbers[0];
-    let room = numbers[1] as usize;
-    if REGISTERS as u64 <= r {
-        return Answer::Bad;
-    }
-    if bytes.len() < room {
-        return Answer::Bad;
-    }
-    let answer = write_with(load(records, r as u32), &mut bytes[..room]);
-    if let Answer::Written { length, changed: _ } = answer {
-        let n = length as usize;
-        if n <= bytes.len() {
-            keep(&bytes[..n], text, text_len);
-        }
-    }
-    answer
-}
-
-// Writes a net into this buffer.
-fn write_with(net: Net, bytes: &mut [u8]) -> Answer {
-    fill_bytes(bytes);
-    let answer = netfile::write_net(net, bytes);
-    match answer {
-        WriteAnswer::Written { length } => Answer::Written {
-            length,
-            changed: !bytes_untouched(bytes, length as usize),
-        },
-        WriteAnswer::Refused { number, place } => Answer::Refused {
-            number,
-            place,
-            changed: !bytes_untouched(bytes, 0),
-        },
+    Reply {
+        answer: answered(written, |n| Answer::Value(u64::from(n))),
+        changed: !is_untouched(lent, length),
     }
 }
 
-// The text register becomes these bytes, if it holds as many.
-fn keep(bytes: &[u8], text: &mut [u8], text_len: &mut usize)
-    requires { text_len.old ≤ length text.old }
-    ensures { text_len.new ≤ length text.new }
+// text N: the text register becomes the N bytes that follow, behind which an LF must stand. Bytes that it can't take are passed
+// over all the same, as they are no lines.
+pub fn text(text: &mut Text, numbers: &[u64], script: &mut Script) -> Answer<'static>
+    ensures { length script.new.rest.now ≤ length script.old.rest.now }
 {
-    if bytes.len() <= text.len() {
-        *text_len = write_bytes(text, 0, bytes);
-    }
-}
-
-// text N: the text register becomes the N bytes from script[from] on, which an LF must follow. Bytes that it can't take are
-// passed over all the same, as they are no lines.
-pub fn text(
-    script: &[u8],
-    from: usize,
-    numbers: &[u64],
-    text: &mut [u8],
-    text_len: &mut usize,
-) -> Answer
-    requires from_in_bounds { from ≤ length script.now }
-    requires text_len_in_bounds { text_len.old ≤ length text.old }
-    ensures { text_len.new ≤ length text.new }
-{
-    if numbers.len() != 1 {
+    let [n] = *numbers else {
         return Answer::Bad;
+    };
+    match script.next_text(n as usize) {
+        Some(bytes) if text.set(bytes) => Answer::Done,
+        _ => Answer::Bad,
     }
-    let n = numbers[0] as usize;
-    if script.len() - from <= n {
-        return Answer::Untaken { next: script.len() };
-    }
-    let end = from + n;
-    if script[end] != b'\n' {
-        return Answer::Untaken { next: end };
-    }
-    if text.len() < n {
-        return Answer::Untaken { next: end + 1 };
-    }
-    *text_len = write_bytes(text, 0, &script[from..end]);
-    Answer::Taken
 }
 
 // show: the text register.
-pub fn show(numbers: &[u64]) -> Answer {
-    if numbers.len() != 0 {
+pub fn show<'t>(text: &'t Text, numbers: &[u64]) -> Answer<'t> {
+    if !numbers.is_empty() {
         return Answer::Bad;
     }
-    Answer::Shown
+    Answer::Shown(text.as_slice())
 }
 
 // readrow ROW N: reads row ROW of the text as a log, with a buffer of N words.
-pub fn readrow(numbers: &[u64], text: &[u8], words: &mut [u32]) -> Answer {
-    if numbers.len() != 2 {
-        return Answer::Bad;
+pub fn readrow<'w>(text: &Text, numbers: &[u64], words: &'w mut [u32]) -> Reply<'w> {
+    let [row, room] = *numbers else {
+        return Answer::Bad.into();
+    };
+    let Some(lent) = words.get_mut(..room as usize) else {
+        return Answer::Bad.into();
+    };
+    fill(lent);
+    let read = logfile::read_row(text.as_slice(), row, lent);
+    let length = match read {
+        Ok(Some(row)) => row.length as usize,
+        _ => 0,
+    };
+    let changed = !is_untouched(lent, length);
+    // No trace has more words than the buffer; one that had would not be written as if it were right.
+    let Some(trace) = lent.get(..length) else {
+        return Answer::Bad.into();
+    };
+    Reply {
+        answer: answered(read, |row| row_answer(row, trace)),
+        changed,
     }
-    let row = numbers[0];
-    let room = numbers[1] as usize;
-    if words.len() < room {
-        return Answer::Bad;
-    }
-    read_with(text, row, &mut words[..room])
 }
 
-// Reads a row with this buffer.
-fn read_with(text: &[u8], row: u64, words: &mut [u32]) -> Answer {
-    fill_words(words);
-    let answer = logfile::read_row(text, row, words);
-    match answer {
-        RowAnswer::Row { sessions, length } => Answer::Row {
-            sessions,
-            length,
-            changed: !words_untouched(words, length as usize),
+fn row_answer(row: Option<Row>, trace: &[u32]) -> Answer<'_> {
+    match row {
+        Some(row) => Answer::Row {
+            sessions: row.sessions,
+            trace,
         },
-        RowAnswer::End => Answer::End {
-            changed: !words_untouched(words, 0),
-        },
-        RowAnswer::Refused { number, place } => Answer::Refused {
-            number,
-            place,
-            changed: !words_untouched(words, 0),
-        },
+        None => Answer::End,
     }
 }
