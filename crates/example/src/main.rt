@@ -2,11 +2,9 @@
 
 #![tactic(auto)]
 
-use net::Net;
+use net::{Net, Refused};
 use obligations::SEQUENCE_WORDS;
-use search::ReplayAnswer;
-use sequences::LearnAnswer;
-use walks::CheckAnswer;
+use search::Outcome;
 
 fn main(rt: HostRuntime) {
     // 0 and 3 are activities and differ, so this isn't refused.
@@ -14,32 +12,22 @@ fn main(rt: HostRuntime) {
     // Cart makes address and payment due, and order waits for both.
     let proposed = [0, 0, 6, 1, 1, 8, 2, 1, 8, 3, 6, 0];
     let learned = sequences::learn(made.net, &proposed);
-    let answer = learned.answer;
-    say_learned(&rt, answer);
+    say_answer(&rt, "learned", learned.answer);
     // A session without an address: the goods are picked up.
     let session = [0, 2, 3];
     let followed = sequences::follow(learned.net, &session);
-    let again = followed.answer;
-    say_learned(&rt, again);
+    say_answer(&rt, "learned", followed.answer);
     let net = followed.net;
-    say_checked(&rt, walks::check(net));
-    let paid = [0, 2, 1, 3];
-    say_replayed(&rt, net, &paid);
-    let unpaid = [0, 1, 3];
-    say_replayed(&rt, net, &unpaid);
+    say_answer(&rt, "passed", walks::check(net));
+    say_replayed(&rt, net, &[0, 2, 1, 3]);
+    say_replayed(&rt, net, &[0, 1, 3]);
 }
 
-fn say_learned<R: Print>(rt: &R, answer: LearnAnswer) {
+// Prints a call's number behind a word, or its refusal.
+fn say_answer<R: Print>(rt: &R, word: &str, answer: Result<u32, Refused>) {
     match answer {
-        LearnAnswer::Learned { new } => say(rt, "learned", new as u64),
-        LearnAnswer::Refused { number, place } => say_refused(rt, number, place),
-    }
-}
-
-fn say_checked<R: Print>(rt: &R, answer: CheckAnswer) {
-    match answer {
-        CheckAnswer::Passed { arcs } => say(rt, "passed", arcs as u64),
-        CheckAnswer::Refused { number, place } => say_refused(rt, number, place),
+        Ok(n) => say(rt, word, u64::from(n)),
+        Err(refused) => say_refused(rt, refused),
     }
 }
 
@@ -47,18 +35,17 @@ fn say_checked<R: Print>(rt: &R, answer: CheckAnswer) {
 // every trace; if the answer is Found the sequence stands at its front.
 fn say_replayed<R: Print>(rt: &R, net: Net, trace: &[u32]) {
     let mut sequence = [0u32; SEQUENCE_WORDS];
-    let answer = search::replay(net, trace, 1000000, &mut sequence);
-    match answer {
-        ReplayAnswer::Found { trials } => say(rt, "found", trials),
-        ReplayAnswer::None { trials } => say(rt, "none", trials),
-        ReplayAnswer::Spent { trials } => say(rt, "spent", trials),
-        ReplayAnswer::Refused { number, place } => say_refused(rt, number, place),
+    match search::replay(net, trace, 1000000, &mut sequence) {
+        Ok(Outcome::Found { trials }) => say(rt, "found", trials),
+        Ok(Outcome::Failed { trials }) => say(rt, "none", trials),
+        Ok(Outcome::Spent { trials }) => say(rt, "spent", trials),
+        Err(refused) => say_refused(rt, refused),
     }
 }
 
-fn say_refused<R: Print>(rt: &R, number: u32, place: u32) {
-    say(rt, "refused by", number as u64);
-    say(rt, "at", place as u64);
+fn say_refused<R: Print>(rt: &R, refused: Refused) {
+    say(rt, "refused by", u64::from(refused.refusal.number()));
+    say(rt, "at", u64::from(refused.place));
 }
 
 // Prints a word and a number on a line.
