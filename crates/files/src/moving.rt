@@ -19,6 +19,7 @@ pub fn read_whole<R: Read>(reader: &mut R, buf: &mut [u8]) -> io::Result<usize>
     ensures bytes { IfOk result (λ n. Consumes (R.remaining reader.old) (R.remaining reader.new) (take n buf.new)) }
     ensures end { IfOk result (λ n. n < length buf.new → IsAtEnd (R.remaining reader.new)) }
 {
+    // An index, since what the contract says is of the buffer's front, up to it.
     let mut done: usize = 0;
     while done < buf.len() {
         let more = read_some(reader, &mut buf[done..])?;
@@ -34,6 +35,7 @@ pub fn read_whole<R: Read>(reader: &mut R, buf: &mut [u8]) -> io::Result<usize>
 pub fn write_whole<W: Write>(writer: &mut W, bytes: &[u8]) -> io::Result<()>
     ensures { OnOk result (Appends (W.contents writer.old) (W.contents writer.new) bytes.now) }
 {
+    // An index, since what the contract says is of the front that is written, up to it.
     let mut done: usize = 0;
     while done < bytes.len() {
         let more = write_some(writer, &bytes[done..])?;
