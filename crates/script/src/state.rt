@@ -1,0 +1,67 @@
+// What the commands of a script work on.
+
+ghost use Rattle.std.specs.Prelude.{◌≤◌};
+ghost use Rattle.script.specs.declared.state.TheConstants.{TEXT_ROOM};
+
+use machine::buffers::room;
+use machine::registers::Registers;
+
+// Room for the text register: one byte more than a log file may have.
+const TEXT_ROOM: usize = 524289;
+
+// Room for the longest buffers that are lent to a call.
+const WORD_ROOM: usize = 4096;
+
+const BYTE_ROOM: usize = 131072;
+
+// The registers, and the buffers of which parts are lent to calls.
+#[derive(Drop)]
+pub struct State {
+    pub registers: Registers,
+    pub text: Text,
+    pub words: [u32; WORD_ROOM],
+    pub bytes: [u8; BYTE_ROOM],
+}
+
+impl State {
+    pub fn new() -> State {
+        State {
+            registers: Registers::new(),
+            text: Text::new(),
+            words: room(),
+            bytes: room(),
+        }
+    }
+}
+
+// The text register: the first `len` bytes.
+#[derive(Drop)]
+pub struct Text {
+    bytes: [u8; TEXT_ROOM],
+    len: usize,
+    ghost within: { len ≤ TEXT_ROOM },
+}
+
+impl Text {
+    fn new() -> Text {
+        Text {
+            bytes: room(),
+            len: 0,
+        }
+    }
+
+    pub fn as_slice(&self) -> &[u8] {
+        &self.bytes[..self.len]
+    }
+
+    // The register becomes these bytes, if it holds as many. Answers whether it does.
+    pub fn set(&mut self, bytes: &[u8]) -> bool {
+        if TEXT_ROOM < bytes.len() {
+            return false;
+        }
+        let len = bytes.len();
+        self.bytes[0..len].copy_from_slice(bytes);
+        self.len = len;
+        true
+    }
+}
