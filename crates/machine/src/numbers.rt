@@ -1,5 +1,7 @@
 // The numbers of a script's line, and numbers as words.
 
+ghost use Rattle.std.specs.Prelude.{◌≡◌, ◌≤◌, IfSome, length};
+
 use text::decimal::read_wide;
 use text::fields::Fields;
 
@@ -8,7 +10,9 @@ pub const NUMBERS: usize = 1024;
 
 // Reads the numbers that fields say into the buffer's front: none, if one of them says no number or there are more than the buffer
 // holds.
-pub fn read_numbers<'n>(fields: Fields, buf: &'n mut [u64]) -> Option<&'n [u64]> {
+pub fn read_numbers<'n>(fields: Fields, buf: &'n mut [u64]) -> Option<&'n [u64]>
+    ensures { IfSome result (λ numbers. length numbers.now ≤ length buf.old) }
+{
     let mut n = 0;
     for field in fields {
         *buf.get_mut(n)? = read_wide(field, u64::MAX)?;
@@ -18,7 +22,9 @@ pub fn read_numbers<'n>(fields: Fields, buf: &'n mut [u64]) -> Option<&'n [u64]>
 }
 
 // Copies numbers, as words, to the buffer's front: none, if one of them is no word or there are more than the buffer holds.
-pub fn words_from<'w>(numbers: &[u64], buf: &'w mut [u32]) -> Option<&'w [u32]> {
+pub fn words_from<'w>(numbers: &[u64], buf: &'w mut [u32]) -> Option<&'w [u32]>
+    ensures { IfSome result (λ words. length words.now ≡ length numbers.now) }
+{
     let words = buf.get_mut(..numbers.len())?;
     for (word, number) in words.iter_mut().zip(numbers) {
         *word = u32::try_from(*number).ok()?;
