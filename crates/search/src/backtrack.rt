@@ -10,6 +10,7 @@ ghost use Rattle.net.specs.Inner.{SidesFit};
 ghost use Rattle.net.specs.Lists.{splice};
 ghost use Rattle.search.specs.Search.{later, at_end};
 ghost use Rattle.search.specs.Replay.{outcome_means, end_says};
+ghost use Rattle.search.specs.declared.Outcome.TheVariants.{Spent};
 ghost use Rattle.search.specs.Backtrack.{search_lent, search_taken, Searched};
 
 use crate::Outcome;
@@ -51,9 +52,7 @@ impl Search<'_> {
             let (passed, left) = rest.split_at(next_possible(due, a, rest));
             let pairs = passed.len() as u64 * width;
             if self.budget - count < pairs {
-                return Outcome::Spent {
-                    trials: self.budget,
-                };
+                return self.spent();
             }
             count += pairs;
             let Some((x, more)) = left.split_first() else {
@@ -81,12 +80,11 @@ impl Search<'_> {
         ensures { Searched self.now.budget (later trials (search_taken self.now.net.now self.now.trace.now at x due.old)) (3 * at) result due.old due.new out.old out.new }
     {
         let a = self.trace[at];
+        let sets = self.net.outputs.sets(a);
         let mut count = trials;
-        for y in self.net.outputs.sets(a) {
+        for y in sets {
             if count == self.budget {
-                return Outcome::Spent {
-                    trials: self.budget,
-                };
+                return self.spent();
             }
             due.add(a, *y);
             let next = self.inputs(at + 1, count + 1, due, out);
@@ -105,6 +103,14 @@ impl Search<'_> {
             }
         }
         Outcome::Failed { trials: count }
+    }
+
+    // A trial more would exceed the budget.
+    fn spent(&self) -> Outcome
+        ensures { result ≡ Spent self.now.budget }
+    {
+        let trials = self.budget;
+        Outcome::Spent { trials }
     }
 }
 

@@ -92,8 +92,8 @@ pub inputs-returns-then-self-count : goal.inputs-returns-then-self-count
 inputs-returns-then-self-count t c =
     let s = c.args.self.now in
     let g = c.loop-count.invariant.going in
-    turns.part_beyond (passed s.net.now s.trace.now c.args.at c.loop-count.rest.now c.next_possible.ensures g c.split_at.ensures.front_len (ap length c.sets.ensures)) _
-    (omega (arith, laws.trials_failed (length c.split_at.result.0.now * length c.sets.result.now), g.high, c.if-self-count.true))
+    rw c.spent.ensures (turns.part_beyond (passed s.net.now s.trace.now c.args.at c.loop-count.rest.now c.next_possible.ensures g c.split_at.ensures.front_len (ap length c.sets.ensures)) _
+    (omega (arith, laws.trials_failed (length c.split_at.result.0.now * length c.sets.result.now), g.high, c.if-self-count.true)))
 
 pub inputs-returns-in_default : goal.inputs-returns-in_default
 inputs-returns-in_default t c =
@@ -147,7 +147,7 @@ inputs-loop-count-preserved t c =
 pub outputs-returns-then-count-self : goal.outputs-returns-then-count-self
 outputs-returns-then-count-self t c =
     let s = c.args.self.now in
-    turns.turn_beyond (λ d. search_lent s.net.now s.trace.now (c.args.at + 1) d) (get_or s.trace.now c.args.at 0) c.args.x c.loop-y.y-index _ c.sets-y-items.result.now c.loop-y-test.true (omega (arith, c.if-count-self.true)) c.loop-y.invariant
+    rw c.spent.ensures (turns.turn_beyond (λ d. search_lent s.net.now s.trace.now (c.args.at + 1) d) (get_or s.trace.now c.args.at 0) c.args.x c.loop-y.y-index _ c.sets-sets.result.now c.loop-y-test.true (omega (arith, c.if-count-self.true)) c.loop-y.invariant)
 
 pub outputs-inputs-next-requires : goal.outputs-inputs-next-requires
 outputs-inputs-next-requires t c =
@@ -165,24 +165,24 @@ outputs-returns-in-Found t c =
     let s = c.args.self.now in
     let g = c.loop-y.invariant in
     let u = turns.undone_add _ _ c.add.ensures c.inputs-next.ensures.restores c.undo_add.ensures in
-    turns.part_found (turns.turn_added (λ d. search_lent s.net.now s.trace.now (c.args.at + 1) d) (get_or s.trace.now c.args.at 0) c.args.x c.loop-y.y-index c.sets-y-items.result.now _ c.loop-y-test.true c.add.ensures g) c.in-Found.is
+    turns.part_found (turns.turn_added (λ d. search_lent s.net.now s.trace.now (c.args.at + 1) d) (get_or s.trace.now c.args.at 0) c.args.x c.loop-y.y-index c.sets-sets.result.now _ c.loop-y-test.true c.add.ensures g) c.in-Found.is
     (turns.pair_found s.net.now s.trace.now _ _ _ _ _ _ c.requires.position (turns.room_same g.out_same c.requires.room) c.in-Found.is c.inputs-next.ensures c.write.ensures u)
 
 pub outputs-returns-in-Spent : goal.outputs-returns-in-Spent
 outputs-returns-in-Spent t c =
     let s = c.args.self.now in
     let u = turns.undone_add _ _ c.add.ensures c.inputs-next.ensures.restores c.undo_add.ensures in
-    turns.part_spent (turns.turn_added (λ d. search_lent s.net.now s.trace.now (c.args.at + 1) d) (get_or s.trace.now c.args.at 0) c.args.x c.loop-y.y-index c.sets-y-items.result.now _ c.loop-y-test.true c.add.ensures c.loop-y.invariant) c.in-Spent.is
+    turns.part_spent (turns.turn_added (λ d. search_lent s.net.now s.trace.now (c.args.at + 1) d) (get_or s.trace.now c.args.at 0) c.args.x c.loop-y.y-index c.sets-sets.result.now _ c.loop-y-test.true c.add.ensures c.loop-y.invariant) c.in-Spent.is
     (turns.pair_spent s.net.now s.trace.now _ _ _ _ _ _ c.in-Spent.is c.inputs-next.ensures u)
 
 pub outputs-loop-y-preserved : goal.outputs-loop-y-preserved
 outputs-loop-y-preserved t c =
     let s = c.args.self.now in
     let u = turns.undone_add _ _ c.add.ensures c.inputs-next.ensures.restores c.undo_add.ensures in
-    turns.part_failed (turns.turn_added (λ d. search_lent s.net.now s.trace.now (c.args.at + 1) d) (get_or s.trace.now c.args.at 0) c.args.x c.loop-y.y-index c.sets-y-items.result.now _ c.loop-y-test.true c.add.ensures c.loop-y.invariant) c.in-Failed.is
+    turns.part_failed (turns.turn_added (λ d. search_lent s.net.now s.trace.now (c.args.at + 1) d) (get_or s.trace.now c.args.at 0) c.args.x c.loop-y.y-index c.sets-sets.result.now _ c.loop-y-test.true c.add.ensures c.loop-y.invariant) c.in-Failed.is
     (turns.pair_failed s.net.now s.trace.now _ _ _ _ _ _ c.in-Failed.is c.inputs-next.ensures u)
 
 pub outputs-returns : goal.outputs-returns
 outputs-returns t c =
     let s = c.args.self.now in
-    turns.outputs_done (λ d. search_lent s.net.now s.trace.now (c.args.at + 1) d) (get_or s.trace.now c.args.at 0) c.args.x c.loop-y.y-index _ c.sets-y-items.result.now (omega (arith, c.loop-y-test.false)) c.loop-y.invariant
+    turns.outputs_done (λ d. search_lent s.net.now s.trace.now (c.args.at + 1) d) (get_or s.trace.now c.args.at 0) c.args.x c.loop-y.y-index _ c.sets-sets.result.now (omega (arith, c.loop-y-test.false)) c.loop-y.invariant

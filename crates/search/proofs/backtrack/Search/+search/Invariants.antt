@@ -27,4 +27,4 @@ decreases-inputs-loop-count l = length l.rest
 -- the trials so far, and then the output sets that are left, make the whole search
 abbrev pub invariant-outputs-loop-y : goal.invariant-outputs-loop-y
 invariant-outputs-loop-y l =
-    Going l.self.budget (later l.trials (search_taken l.self.net.now l.self.trace.now l.at l.x l.fn.due)) (outputs_left l.self.net.now l.self.trace.now l.at l.fn.due l.x (drop l.y-index l.y-items)) l.fn.due l.due l.fn.out l.out l.count
+    Going l.self.budget (later l.trials (search_taken l.self.net.now l.self.trace.now l.at l.x l.fn.due)) (outputs_left l.self.net.now l.self.trace.now l.at l.fn.due l.x (drop l.y-index l.sets)) l.fn.due l.due l.fn.out l.out l.count
