@@ -48,8 +48,15 @@ module _ (s : List Binding) (i : ℕ) (rest : List Binding) (r : Agreeing s i re
     unfolding first_wrongly_empty
     wrong_here f = rw add-one (position_some (fails_first (length s) (empty_agree s) i (record { inside = agreeing_inside; before = r.agree; fails = f })))
 
-    pub input_wrong : beq (eqb b.input 0) (eqb i 0) ≡ false → position_of (first_wrongly_empty s) ≡ Some (i + 1)
-    input_wrong f = wrong_here (rw (test, f))
+    -- the code counts positions from 1
+    first_same : eqb (i + 1) 1 ≡ eqb i 0
+    first_same = elim (dec_eq i 0) [
+      | yes q ↦ rw (eq-eqb (i + 1) 1 (omega arith), eq-eqb i 0 q)
+      | no d ↦ rw (ne_eqb (i + 1) 1 (λ q. d (omega arith)), ne_eqb i 0 d)
+    ]
+
+    pub input_wrong : beq (eqb b.input 0) (eqb (i + 1) 1) ≡ false → position_of (first_wrongly_empty s) ≡ Some (i + 1)
+    input_wrong f = wrong_here (rw (test, rw first_same at f))
 
     -- the code tells the last position by the number of words
     module _ (size : ℕ) (w : size ≡ 3 * length s) where
@@ -62,10 +69,10 @@ module _ (s : List Binding) (i : ℕ) (rest : List Binding) (r : Agreeing s i re
       pub output_wrong : beq (eqb b.output 0) (eqb (3 * (i + 1)) size) ≡ false → position_of (first_wrongly_empty s) ≡ Some (i + 1)
       output_wrong f = wrong_here (test ∙ simp (rw last_same at f, and-false))
 
-      pub agreeing_next : beq (eqb b.input 0) (eqb i 0) ≡ true → beq (eqb b.output 0) (eqb (3 * (i + 1)) size) ≡ true → Agreeing s (i + 1) rest'
+      pub agreeing_next : beq (eqb b.input 0) (eqb (i + 1) 1) ≡ true → beq (eqb b.output 0) (eqb (3 * (i + 1)) size) ≡ true → Agreeing s (i + 1) rest'
       agreeing_next x y = record {
         left = (drop_head s i b rest' b (r.left ∙ e)).2;
-        agree = pass_more (empty_agree s) i r.agree (test ∙ and_both x (rw last_same at y));
+        agree = pass_more (empty_agree s) i r.agree (test ∙ and_both (rw first_same at x) (rw last_same at y));
       }
 
 -- ---- the chain from refusal 7 on

@@ -106,14 +106,14 @@ module _ (s : List Binding) (i : ℕ) (rest : List Binding) (due : List ℕ) (pe
 
   -- at one position more
   module _ (b : Binding) (rest' : List Binding) (e : rest ≡ b ∷ rest') where
-    inside : i < length s
-    inside = (drop_head s i b rest' b (r.left ∙ e)).0
+    pub running_inside : i < length s
+    running_inside = (drop_head s i b rest' b (r.left ∙ e)).0
 
     here : at s i ≡ b
     here = (drop_head s i b rest' (record { activity = 0; input = 0; output = 0 }) (r.left ∙ e)).1
 
     pub running_activity : ((j : ℕ) → j < length s → (at s j).activity < 32) → b.activity < 32
-    running_activity low = subst (λ (c : Binding). c.activity < 32) here (low i inside)
+    running_activity low = subst (λ (c : Binding). c.activity < 32) here (low i running_inside)
 
     possible_here : possible_at s i ≡ possible due b.activity b.input
     possible_here = possible_test s i ∙ rw (r.state, here)
@@ -121,7 +121,7 @@ module _ (s : List Binding) (i : ℕ) (rest : List Binding) (due : List ℕ) (pe
     pub running_impossible : step_says due b.activity b.input b.output ≡ None → refused 10 (i + 1) ≡ run_says s
     unfolding run_says
     running_impossible n =
-        let f = fails_impossible s i (record { inside = inside; before = r.each_possible; fails = possible_here ∙ impossible_said due b.activity b.input b.output n }) in
+        let f = fails_impossible s i (record { inside = running_inside; before = r.each_possible; fails = possible_here ∙ impossible_said due b.activity b.input b.output n }) in
         rw (f, ne_eqb (suc i) 0 (λ z. omega arith)) (ap (refused 10) (add-one i))
 
     pub running_next : (due' : List ℕ) (pending' : ℕ)
@@ -136,7 +136,7 @@ module _ (s : List Binding) (i : ℕ) (rest : List Binding) (due : List ℕ) (pe
         let count : pending' ≡ total due' = sym said.1 ∙ ap total (sym d) in
         record {
           left = (drop_head s i b rest' b (r.left ∙ e)).2;
-          state = d ∙ same ∙ sym (ψ-next s i inside);
+          state = d ∙ same ∙ sym (ψ-next s i running_inside);
           counted = count;
           each_possible = pass_more (possible_at s) i r.each_possible (possible_here ∙ said.0);
           largest = omega (arith, r.largest, ap (largest_total due) e, ap (λ (l : List ℕ). largest_total l rest') d, said.1);

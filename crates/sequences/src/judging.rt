@@ -41,15 +41,17 @@ fn first_missing(net: &Net, words: &[u32]) -> Option<u32>
     ensures { result ≡ position_of (first_missing net.now (bindings words.now)) }
 {
     let mut missing: Option<u32> = None;
-    'positions: for (i, binding) in bindings(words).enumerate() {
-        let place = i as u32 + 1;
+    // Counted in 32 bits and not by `enumerate`: of a count as wide as the words' length the compiler makes a third of that.
+    let mut position: u32 = 0;
+    'positions: for binding in bindings(words) {
+        position += 1;
         'input: {
             for x in net.inputs.sets(binding.activity) {
                 if *x == binding.input {
                     break 'input;
                 }
             }
-            missing = Some(place);
+            missing = Some(position);
             break 'positions;
         }
         'output: {
@@ -58,7 +60,7 @@ fn first_missing(net: &Net, words: &[u32]) -> Option<u32>
                     break 'output;
                 }
             }
-            missing = Some(place);
+            missing = Some(position);
             break 'positions;
         }
     }

@@ -53,11 +53,14 @@ fn first_wrongly_empty(words: &[u32]) -> Option<u32>
     requires { WithinLimits words.now }
     ensures { result ≡ position_of (first_wrongly_empty (bindings words.now)) }
 {
-    for (i, binding) in bindings(words).enumerate() {
-        let is_first = i == 0;
-        let is_last = 3 * (i + 1) == words.len();
+    // Counted in 32 bits and not by `enumerate`: of a count as wide as the words' length the compiler makes a third of that.
+    let mut position: u32 = 0;
+    for binding in bindings(words) {
+        position += 1;
+        let is_first = position == 1;
+        let is_last = 3 * position as usize == words.len();
         if (binding.input == 0) != is_first || (binding.output == 0) != is_last {
-            return Some(i as u32 + 1);
+            return Some(position);
         }
     }
     None

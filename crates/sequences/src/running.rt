@@ -19,9 +19,12 @@ pub fn run(words: &[u32]) -> Result<u32, Refused>
     let mut due = Due::new();
     let mut total: u32 = 0;
     let mut peak: u32 = 0;
-    for (i, binding) in bindings(words).enumerate() {
+    // Counted in 32 bits and not by `enumerate`: of a count as wide as the words' length the compiler makes a third of that.
+    let mut position: u32 = 0;
+    for binding in bindings(words) {
+        position += 1;
         let Some(after) = due.step(total, binding) else {
-            return Err(Refusal::NotPossible.at(i as u32 + 1));
+            return Err(Refusal::NotPossible.at(position));
         };
         total = after;
         peak = peak.max(total);

@@ -12,5 +12,5 @@ invariant-loop-y l = listed l.binding.output l.y-items ≡ listed l.binding.outp
 
 abbrev pub invariant-positions : goal.invariant-positions
 invariant-positions l =
-    (goal.iterator-positions).can_next l.i-iterator × (goal.iterator-positions).is_finite l.i-iterator
-    × (l.missing ≡ None) × Passed l.net (bindings l.words) l.i-iterator.count (bindings l.i-iterator.iter.rest.now)
+    (goal.iterator-positions).can_next l.binding-iterator × (goal.iterator-positions).is_finite l.binding-iterator
+    × (l.missing ≡ None) × Passed l.net (bindings l.words) l.position (bindings l.binding-iterator.rest.now)
