@@ -1,7 +1,5 @@
--- `print_log` meets its contract: the report is no longer than its buffer. Assumes nothing.
-use mathlib.Core.Path.{sym}
-use native.Mathlib.Omega.{arith}
-use lib.Seq.{length-take-le}
+-- `print_log` meets its contract: the report is no longer than its buffer.
+use Rattle.std.proofs.Common.{sym, arith, length-take-le}
 use Rattle.report.proofs.ReportLaws.{log_wrote_short}
 use Rattle.file_report.proofs.print_log.Goals as goal
 

@@ -1,7 +1,5 @@
--- `print_refusal` meets its contract: a refusal is no longer than its buffer. Assumes nothing.
-use mathlib.Core.Path.{sym}
-use native.Mathlib.Omega.{arith}
-use lib.Seq.{length-take-le}
+-- `print_refusal` meets its contract: a refusal is no longer than its buffer.
+use Rattle.std.proofs.Common.{sym, arith, length-take-le}
 use Rattle.net.specs.Refusals.{refusal_number}
 use Rattle.report.specs.Report.{net_word}
 use Rattle.report.proofs.TextLaws.{refusal_short}

@@ -1,5 +1,5 @@
--- `print_report` meets its contract: the net that is read is orderly. Assumes nothing.
-use mathlib.Core.Path.{ap, ◌∙◌}
+-- `print_report` meets its contract: the net that is read is orderly.
+use Rattle.std.proofs.Common.{ap, ◌∙◌}
 use Rattle.net.specs.Orderly.{orderly}
 use Rattle.report.proofs.ReportLaws.{checked_orderly}
 use Rattle.file_report.proofs.print_report.Goals as goal
