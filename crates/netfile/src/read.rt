@@ -70,7 +70,7 @@ fn read_ends(text: &[u8]) -> Result<(u32, u32, &[u8]), Refused>
     Ok((start, end, rows))
 }
 
-// What a line answers; its refusal gets its number.
+// What a line answers; its refusal gets its number. Not `map_err`: of what its closure gives a proof learns nothing at a `?`.
 fn on_line<T>(number: u32, answer: Result<T, Refusal>) -> Result<T, Refused>
     ensures { result ≡ on_line number answer }
 {
@@ -87,6 +87,7 @@ fn put_rows(net: &mut Net, rows: &[u8]) -> Result<(), Refused>
     requires short { length rows.now ≤ net_bytes }
     ensures { MatchResult result (λ _. read_as net.new ≡ read_rows 4 net.old (lines rows.now)) (λ r. refused_with r ≡ read_rows 4 net.old (lines rows.now)) }
 {
+    // Line numbers are u32, and `enumerate` counts in usize.
     let mut number: u32 = 4;
     for line in lines_of(rows) {
         on_line(number, put_line(net, line))?;

@@ -109,6 +109,7 @@ fn write_rows(out: &mut Out, net: &Net, text: &[u8])
     let mut cursor = logfile::start();
     for row in 1..=LOG_ROWS {
         let read = next_row(text, cursor, &mut trace);
+        // Not `Ok(Some(given))` at once: where that fails a proof does not learn that no row is there.
         let Ok(there) = read.answer else {
             return;
         };
