@@ -1,17 +1,17 @@
 -- Laws of places in a state: how often a set selects a place, what one less or one more at each selected place makes of
 -- the counts, and one turn of the walk over a set's members. No place is selected twice. Assumes nothing.
-use Rattle.std.proofs.Common.{Bool, ℕ, zero, suc, ◌+◌, ◌-◌, ◌*◌, ◌/◌, ◌%◌, ◌≤◌, ◌<◌, ◌≡◌, refl, sym, ap, subst, ◌∙◌, ◌⊎◌, inl, inr, ⊎_elim, true, false, List, [], ◌∷◌, map, mod-lt, mul-le-mul_right, eq-zero-or-pos, arith, le-leb, leb-true, leb, lit<, length, get_or, set, length-set}
+use Rattle.std.proofs.Common.{◌^◌, ℕ, zero, suc, ◌+◌, ◌-◌, ◌*◌, ◌/◌, ◌%◌, ◌≤◌, ◌<◌, ◌≡◌, refl, sym, ap, subst, ◌∙◌, ◌⊎◌, inl, inr, ⊎_elim, true, false, List, [], ◌∷◌, map, mod-lt, mul-le-mul_right, eq-zero-or-pos, arith, le-leb, leb-true, leb, lit<, length, get_or, set, length-set}
+use lib.Count.{count_trailing_zeros}
+use Rattle.std.proofs.Common.{bit_and}
 use mathlib.Core.List.Memᴰ
 use lib.ListN.{length-map, get_or-eq_default}
-use Rattle.std.specs.Bool.{MatchBool}
-use Rattle.std.specs.List.{AllWithin, HoldsAt}
 use Rattle.obligations.specs.Sets.{bit, single, keep, members_from, members, size}
 use Rattle.obligations.specs.Places.{places_of}
 use Rattle.obligations.specs.State.{all_due, lowered, raised, State, most_due}
-use Rattle.obligations.proofs.BoolLaws.{and_left, and_right, and_both, true_or_false}
+use Rattle.obligations.proofs.BoolLaws.{and_left, and_right, and_both}
 use Rattle.obligations.proofs.BitLaws.{bit_lt, bit-zero, bit-suc, same, same_refl, same_cases, same_ne}
 use Rattle.obligations.proofs.SetLaws.{lt_or_le}
-use Rattle.obligations.proofs.MemberLaws.{members_none, members-single, members_are}
+use Rattle.obligations.proofs.MemberLaws.{members_walk, members_none, members-single, members_are}
 
 -- how often a place stands among places
 unfoldable pub occ : ℕ → List ℕ → ℕ
@@ -88,6 +88,14 @@ room_head d i is h = omega (arith, h i, same_refl i)
 pub room_next : (d : List ℕ) (i : ℕ) (is : List ℕ) → Room d (i ∷ is) → Room (set d i (get_or d i 0 + 1)) is
 unfolding Room occ
 room_next d i is h j = omega (arith, h j, raise_le d i j)
+
+pub due_stop : (d : List ℕ) (i : ℕ) (is : List ℕ) → get_or d i 0 ≡ 0 → all_due d (i ∷ is) ≡ false
+unfolding all_due
+due_stop d i is e = rw e
+
+pub due_next : (d : List ℕ) (i : ℕ) (is : List ℕ) → (get_or d i 0 ≡ 0 → ⊥) → all_due d (i ∷ is) ≡ all_due d is
+unfolding all_due
+due_next d i is ne = rw (le-leb 1 (get_or d i 0) (omega arith))
 
 -- all are due exactly if each place that is selected has a count of at least 1
 pub due_at : (d is : List ℕ) → all_due d is ≡ true → (j : ℕ) → 0 < occ j is → 1 ≤ get_or d j 0
@@ -224,6 +232,12 @@ pub places_end : (base stride m : ℕ) → members m ≡ [] → places_of base s
 unfolding places_of
 places_end base stride m e = ap (map (λ (i : ℕ). base + i * stride)) e
 
+-- one turn of a walk over places side by side, by `rest &= rest - 1`
+pub row_next : (base m : ℕ) → (m ≡ 0 → ⊥) → m < 2 ^ 32 → places_of base 1 m ≡ (base + count_trailing_zeros 32 m) ∷ places_of base 1 (bit_and m (m - 1))
+row_next base m ne h =
+    let k : base + count_trailing_zeros 32 m * 1 ≡ base + count_trailing_zeros 32 m = omega arith in
+    places_next base 1 m (count_trailing_zeros 32 m) (bit_and m (m - 1)) (members_walk m (omega arith) h) ∙ ap (λ (i : ℕ). i ∷ places_of base 1 (bit_and m (m - 1))) k
+
 pub place_fits : (base stride k : ℕ) → base + 31 * stride < 1024 → k < 32 → base + k * stride < 1024
 place_fits base stride k h l = let s : k * stride ≤ 31 * stride = mul-le-mul_right stride (omega arith) in omega arith
 
@@ -233,25 +247,3 @@ unfolding occ
 first_inside base stride m i is h e =
     let f = places_found base stride m i (rw e (omega (arith, same_refl i))) in
     rw f.2 (place_fits base stride f.0 h f.1)
-
--- ---- the test of all places, by what it says of each
-
-all_due_at : (d is : List ℕ) (k : ℕ) → all_due d is ≡ true → k < length is → 1 ≤ get_or d (get_or is k 0) 0
-unfolding all_due
-all_due_at d [] k e h = absurd (omega arith)
-all_due_at d (i ∷ is) zero e h = leb-true 1 (get_or d i 0) (and_left (leb 1 (get_or d i 0)) (all_due d is) e)
-all_due_at d (i ∷ is) (suc k) e h = all_due_at d is k (and_right (leb 1 (get_or d i 0)) (all_due d is) e) (omega arith)
-
-each_due : (d is : List ℕ) → ((k : ℕ) → k < length is → get_or d (get_or is k 0) 0 ≡ 0 → ⊥) → all_due d is ≡ true
-unfolding all_due
-each_due d [] h = refl
-each_due d (i ∷ is) h =
-    let p : 1 ≤ get_or d i 0 = let ne = h 0 (omega arith) in omega arith in
-    and_both (le-leb 1 (get_or d i 0) p) (each_due d is (λ k l. h (suc k) (omega arith)))
-
-pub due_cases : (d is : List ℕ) (r : Bool)
-    → MatchBool r (AllWithin (λ i. get_or d i 0 ≡ 0 → ⊥) is 0 (length is)) ((k : ℕ) × (k < length is) × HoldsAt (λ i. get_or d i 0 ≡ 0) is k)
-    → r ≡ all_due d is
-due_cases d is true each = sym (each_due d is (λ k l. each k 0 (omega arith) l))
-due_cases d is false some =
-    ⊎_elim (λ t. absurd (let z = all_due_at d is some.0 t some.1 in let e = some.2 0 in omega arith)) (λ f. sym f) (true_or_false (all_due d is))

@@ -7,6 +7,7 @@
 
 ghost use Rattle.std.specs.Prelude.{◌≡◌, true, List, ℕ, ◌≤◌, ◌<◌, ◌+◌, ◌-◌, ◌*◌, length};
 ghost use Rattle.obligations.specs.Limits.{activities, pairs};
+ghost use Rattle.obligations.specs.Places.{places_of};
 ghost use Rattle.obligations.specs.State.{nothing, places_left, inputs, outputs, all_due, lowered, raised, possible, taken, added, covers, unadded, untaken, before, all_zero, total, State, most_due, step_says, step_gives};
 
 use crate::places::Places;
@@ -48,8 +49,7 @@ impl Due {
         requires { a < activities }
         ensures { result ≡ possible self.now a x }
     {
-        let counts = &self.counts;
-        inputs(a, x).all(|i| counts[i] != 0)
+        all_due(&self.counts, a * ACTIVITIES, x)
     }
 
     // Takes one from each (p, a) with p in x.
@@ -160,6 +160,23 @@ fn outputs(a: u32, y: u32) -> Places
         stride: ACTIVITIES,
         members: members(y),
     }
+}
+
+// Whether each place base + k, for k in the set, has a count of at least 1. This test is where a replay's time goes. As a walk over
+// `inputs`, which takes a member off before its count is tested, it makes replays of nets with full sides a fifth slower.
+fn all_due(counts: &[u8; PAIRS], base: u32, set: u32) -> bool
+    requires { base + 31 < pairs }
+    ensures { result ≡ all_due counts.now (places_of base 1 set) }
+{
+    let mut rest = set;
+    while rest != 0 {
+        let k = rest.trailing_zeros();
+        if counts[(base + k) as usize] == 0 {
+            return false;
+        }
+        rest &= rest - 1;
+    }
+    true
 }
 
 // Takes one from each of the places. Not one function with `raise`: the two ask different things of the counts, which a

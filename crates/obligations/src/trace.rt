@@ -1,5 +1,5 @@
 // Tests on the activities of a trace, or of a sequence: n numbers in a list of words, `stride` words apart, which is 1 in
-// a trace and 3 in a sequence.
+// a trace and 3 in a sequence. Words and a stride and not an iterator, of which each clause would have to say what it yields.
 
 ghost use Rattle.std.specs.Prelude.{◌≡◌, ◌*◌, ◌^◌, ◌<◌, ◌≤◌, length, get_or};
 ghost use Rattle.obligations.specs.Tests.{position_of};

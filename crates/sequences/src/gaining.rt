@@ -82,7 +82,7 @@ fn gain_set(sides: &mut Sides, empty: u32, a: u32, m: u32) -> Result<Added, Refu
     })
 }
 
-// Raises the count at a place by one and answers 0; one that is at its top stays, and the answer is 1.
+// Raises the count at a place by one and answers 0; one that is at its top stays, and the answer is 1, so that answers add up.
 fn raise(counts: &mut [u32; PLACES], at: usize) -> u32
     requires { at < places }
     ensures tops { result ≡ topped_at counts.old at }

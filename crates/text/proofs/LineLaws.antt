@@ -1,27 +1,12 @@
 -- Laws of lines: the first line of a rest ends at its first CR LF and the others follow it, and lines that were written
 -- are read again, by induction on the text; and a line's number is one more than the lines before it. Assumes nothing.
-use Rattle.std.proofs.Common.{ℕ, suc, ◌+◌, ◌-◌, ◌≤◌, ◌<◌, ◌≡◌, refl, sym, ap, ◌∙◌, Bool, true, false, List, [], ◌∷◌, ◌++◌, append_assoc, suc-add, arith, ne_eqb, leb-true, leb-false, eqb, leb, length, get_or, take, drop, length-drop, drop_of_length-le}
-use mathlib.Core.Bool.{and-false, and-true}
+use Rattle.std.proofs.Common.{ℕ, suc, ◌+◌, ◌-◌, ◌≤◌, ◌<◌, ◌≡◌, refl, sym, ap, ◌∙◌, Bool, true, false, List, [], ◌∷◌, ◌++◌, append_assoc, suc-add, arith, leb-true, leb-false, leb, length, get_or, take, drop, length-drop, drop_of_length-le}
 use mathlib.Core.List.{Memᴰ}
-use native.Mathlib.Decide.{ℕ_discrete as dec_eq}
-use Rattle.std.specs.List.{starts_with}
-use Rattle.std.proofs.lemmas.List.{take_rest}
 use Rattle.std.proofs.Math.Seq.{slice, drop-drop, drop-cons}
 use Rattle.text.specs.Bytes.{occurrences}
 use Rattle.text.specs.Lines.{cr, lf, starts_cr_lf, lines, unlines, HasLine, line_at}
 use Rattle.text.specs.Inner.{line_length, line_end, next_line}
 use Rattle.text.proofs.ByteLaws.{drop-step, take_drop, occurrences_none_head, occurrences_none_tail}
-
--- ---- CR LF
-
-eqb_sym : (a b : ℕ) → eqb b a ≡ eqb a b
-eqb_sym a b = elim (dec_eq a b) [ yes e ↦ rw e | no n ↦ ne_eqb b a (λ q. n (sym q)) ∙ sym (ne_eqb a b n) ]
-
--- it is what `starts_with` answers
-pub starts-with_crlf : (s : List ℕ) → starts_with eqb s (cr ∷ lf ∷ []) ≡ starts_cr_lf s
-starts-with_crlf [] = refl
-starts-with_crlf (a ∷ []) = and-false (eqb cr a)
-starts-with_crlf (a ∷ b ∷ s) = rw (eqb_sym a cr, eqb_sym b lf, and-true (eqb b lf))
 
 -- ---- the end of a line
 
@@ -32,12 +17,10 @@ line-here (a ∷ s) h = rw h
 pub line_more : (s : List ℕ) (k : ℕ) → k < length s → starts_cr_lf (drop k s) ≡ false → line_length (drop k s) ≡ suc (line_length (drop (k + 1) s))
 line_more s k h = rw (drop-step s k h) (λ q. rw q)
 
--- one byte further, where none is ended here: what the code tests is s[i..]
-pub line_step : (s : List ℕ) (i : ℕ) (t : Bool) → i < length s → t ≡ starts_with eqb (take (length s - i) (drop i s)) (cr ∷ lf ∷ []) → t ≡ false
+-- one byte further, where none is ended here
+pub line_step : (s : List ℕ) (i : ℕ) (t : Bool) → i < length s → t ≡ starts_cr_lf (drop i s) → t ≡ false
     → line_length s ≡ i + line_length (drop i s) → line_length s ≡ i + 1 + line_length (drop (i + 1) s)
-line_step s i t h e q l =
-    let r : t ≡ starts_cr_lf (drop i s) = e ∙ ap (λ (r : List ℕ). starts_with eqb r (cr ∷ lf ∷ [])) (take_rest s i) ∙ starts-with_crlf (drop i s) in
-    omega (arith, l, line_more s i h (sym r ∙ q))
+line_step s i t h e q l = omega (arith, l, line_more s i h (sym e ∙ q))
 
 pub line_none : (s : List ℕ) (k : ℕ) → length s ≤ k → line_length (drop k s) ≡ 0
 line_none s k h = rw (drop_of_length-le s h)

@@ -5,4 +5,4 @@ use Rattle.text.proofs.lines.split_line.Goals as goal
 
 pub loop-i-preserved : goal.loop-i-preserved
 loop-i-preserved c =
-    line_step c.args.s.now c.loop-i.i c.starts_with.result c.loop-i-test.true c.starts_with.ensures.value c.if-starts_with.false c.loop-i.invariant
+    line_step c.args.s.now c.loop-i.i c.ends_at.result c.loop-i-test.true c.ends_at.ensures.value c.if-ends_at.false c.loop-i.invariant
