@@ -52,7 +52,7 @@ fn read_sessions(field: &[u8]) -> Option<u32>
 }
 
 // How many entries a trace has, if all are activities. Those past the last that a trace may have are tested too, since a wrong one
-// among them is refused by 14, which comes before 3.
+// among them is refused by 14, which comes before 3; so they are counted by hand.
 fn count_entries(trace: &[u8]) -> Option<usize>
     ensures { result ≡ count_entries trace.now }
 {

@@ -41,7 +41,7 @@ fn first_missing(net: &Net, words: &[u32]) -> Option<u32>
     ensures { result ≡ position_of (first_missing net.now (bindings words.now)) }
 {
     let mut missing: Option<u32> = None;
-    // Counted in 32 bits and not by `enumerate`: of a count as wide as the words' length the compiler makes a third of that.
+    // In 32 bits, not by `enumerate`: of a count as wide as the length a compiler makes a division of the length by 3.
     let mut position: u32 = 0;
     'positions: for binding in bindings(words) {
         position += 1;

@@ -53,7 +53,7 @@ fn first_wrongly_empty(words: &[u32]) -> Option<u32>
     requires { WithinLimits words.now }
     ensures { result ≡ position_of (first_wrongly_empty (bindings words.now)) }
 {
-    // Counted in 32 bits and not by `enumerate`: of a count as wide as the words' length the compiler makes a third of that.
+    // In 32 bits, not by `enumerate`: of a count as wide as the length a compiler makes a division of the length by 3.
     let mut position: u32 = 0;
     for binding in bindings(words) {
         position += 1;

@@ -19,7 +19,7 @@ pub fn run(words: &[u32]) -> Result<u32, Refused>
     let mut due = Due::new();
     let mut total: u32 = 0;
     let mut peak: u32 = 0;
-    // Counted in 32 bits and not by `enumerate`: of a count as wide as the words' length the compiler makes a third of that.
+    // In 32 bits, not by `enumerate`: of a count as wide as the length a compiler makes a division of the length by 3.
     let mut position: u32 = 0;
     for binding in bindings(words) {
         position += 1;

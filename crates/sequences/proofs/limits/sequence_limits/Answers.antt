@@ -13,13 +13,13 @@ returns-then-n-size-clause-says c =
 
 pub returns-in-Some-clause-says : goal.returns-in-Some-clause-says
 returns-in-Some-clause-says c =
-    rw c.at-in-Some.ensures (limits_no_activity c.args.words.now c.third-n.result (omega arith) (sym c.if-n-size.false) c.in-Some.place (sym c.in-Some.ensures))
+    rw c.at-in-Some.ensures (limits_no_activity c.args.words.now c.third-n.result (omega arith) (omega (arith, c.if-n-size.false)) c.in-Some.place (sym c.in-Some.ensures))
 
 pub returns-in-None-clause-says : goal.returns-in-None-clause-says
-returns-in-None-clause-says c = limits_within c.args.words.now c.third-n.result (omega arith) (sym c.if-n-size.false) (sym c.in-None.ensures)
+returns-in-None-clause-says c = limits_within c.args.words.now c.third-n.result (omega arith) (omega (arith, c.if-n-size.false)) (sym c.in-None.ensures)
 
 pub returns-in-None-clause-counts : goal.returns-in-None-clause-counts
-returns-in-None-clause-counts c = positions_many c.args.words.now c.third-n.result (omega arith) (sym c.if-n-size.false)
+returns-in-None-clause-counts c = positions_many c.args.words.now c.third-n.result (omega arith) (omega (arith, c.if-n-size.false))
 
 pub returns-in-None-clause-within : goal.returns-in-None-clause-within
-returns-in-None-clause-within c = limits_facts c.args.words.now c.third-n.result (omega arith) (sym c.if-n-size.false) (sym c.in-None.ensures)
+returns-in-None-clause-within c = limits_facts c.args.words.now c.third-n.result (omega arith) (omega (arith, c.if-n-size.false)) (sym c.in-None.ensures)
