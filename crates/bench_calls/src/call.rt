@@ -1,5 +1,7 @@
 // The calls that are timed.
 
+use std::fmt;
+
 #[derive(Clone, Copy)]
 pub enum Call {
     Put,
@@ -20,19 +22,32 @@ impl Call {
         Call::ReadNet,
         Call::ReadRow,
     ];
+}
 
-    pub fn of_number(number: u32) -> Option<Call> {
-        Call::ALL.get(number as usize).copied()
+// No call has this number.
+#[derive(Clone, Copy)]
+pub struct NoCall(pub u32);
+
+impl TryFrom<u32> for Call {
+    type Error = NoCall;
+
+    fn try_from(number: u32) -> Result<Call, NoCall> {
+        Call::ALL
+            .get(number as usize)
+            .copied()
+            .ok_or(NoCall(number))
     }
+}
 
-    pub fn name(self) -> &'static str {
-        match self {
+impl fmt::Display for Call {
+    fn fmt<W: fmt::Write>(&self, f: &mut fmt::Formatter<W>) -> fmt::Result {
+        f.pad(match self {
             Call::Put => "put",
             Call::Learn => "learn",
             Call::Check => "check",
             Call::Judge => "judge",
             Call::ReadNet => "read_net",
             Call::ReadRow => "read_row",
-        }
+        })
     }
 }

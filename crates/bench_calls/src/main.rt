@@ -20,7 +20,7 @@ const FEW: u32 = 24;
 
 fn main(rt: HostRuntime) {
     let count = argument(&rt, 2).unwrap_or(FEW);
-    match argument(&rt, 1).and_then(Call::of_number) {
+    match argument(&rt, 1).and_then(|number| Call::try_from(number).ok()) {
         Some(call) => print_line(&rt, call, count),
         None => {
             for call in Call::ALL {
@@ -40,7 +40,7 @@ fn argument<R: Env>(rt: &R, k: usize) -> Option<u32> {
 // Makes a call so often, and prints its line.
 fn print_line<R: Files + Print + Eprint>(rt: &R, call: Call, count: u32) {
     let sum = repeat(rt, call, count);
-    let _ = println!(rt; "{:<10}{sum}", call.name());
+    let _ = println!(rt; "{call:<10}{sum}");
 }
 
 // Makes a call so often, and returns the sum of its answers. Calls that grow a net start from a fresh one.

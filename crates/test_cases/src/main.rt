@@ -4,17 +4,19 @@
 
 #![tactic(auto)]
 
+use std::fmt::InlineText;
 use std::rt::Files;
 
 const CASES: u8 = 63;
 
+// Room for a file's name.
+const PATH: usize = 6;
+
 // Prints the report of one case.
 fn print_case<R: Files + Print + Eprint>(rt: &R, case: u8) {
-    let tens = b'0' + case / 10 % 10;
-    let ones = b'0' + case % 10;
-    let net_path = [tens, ones, b'.', b'n', b'e', b't'];
-    let log_path = [tens, ones, b'.', b'l', b'o', b'g'];
-    file_report::print_report(rt, &net_path, &log_path);
+    let net = InlineText::<PATH>::of(format_args!("{case:02}.net"));
+    let log = InlineText::<PATH>::of(format_args!("{case:02}.log"));
+    file_report::print_report(rt, net.as_str().as_bytes(), log.as_str().as_bytes());
 }
 
 fn main(rt: HostRuntime) {
