@@ -3,6 +3,7 @@
 ghost use Rattle.std.specs.Prelude.{◌≡◌, true, ◌<◌, IfOk, length};
 ghost use Rattle.obligations.specs.Limits.{activities};
 ghost use Rattle.obligations.specs.Sequence.{bindings};
+ghost use Rattle.obligations.specs.Tests.{indicator};
 ghost use Rattle.net.specs.Limits.{places};
 ghost use Rattle.net.specs.Inner.{OrderlySides};
 ghost use Rattle.net.specs.Orderly.{orderly};
@@ -14,8 +15,8 @@ use net::putting::put_counted;
 use net::{MOST_USES, Net, PLACES, Refusal, Refused, Returned, Sides};
 use obligations::sequence::bindings;
 
-// What a position's set does to its side: how many sets it adds, and how many counts are at their top and can't be raised, each
-// 0 or 1.
+// What a position's set does to its side, in numbers that add up over the positions: how many sets it adds, and how many counts are
+// at their top and can't be raised, each 0 or 1.
 #[derive(Clone, Copy)]
 struct Added {
     sets: u32,
@@ -78,21 +79,21 @@ fn gain_set(sides: &mut Sides, empty: u32, a: u32, m: u32) -> Result<Added, Refu
     let topped = raise(&mut sides.counts, placed.at);
     Ok(Added {
         sets: u32::from(placed.new),
-        topped,
+        topped: u32::from(topped),
     })
 }
 
-// Raises the count at a place by one and answers 0; one that is at its top stays, and the answer is 1, so that answers add up.
-fn raise(counts: &mut [u32; PLACES], at: usize) -> u32
+// Raises the count at a place by one, and says whether it is at its top, where it stays.
+fn raise(counts: &mut [u32; PLACES], at: usize) -> bool
     requires { at < places }
-    ensures tops { result ≡ topped_at counts.old at }
+    ensures tops { indicator result ≡ topped_at counts.old at }
     ensures counts_are { counts.new ≡ raised_at counts.old at }
 {
     let count = counts[at];
     if count < MOST_USES {
         counts[at] = count + 1;
-        0
+        false
     } else {
-        1
+        true
     }
 }

@@ -17,5 +17,5 @@ raise-topped-requires c = raise_below c.args.sides.now c.args.empty c.args.a c.a
 
 pub returns : goal.returns
 returns c =
-    rw (c.from.ensures ∙ as_number c.in-Ok.placed.new)
-    (gained_set c.args.sides.now c.args.empty c.args.a c.args.m c.in-Ok.placed c.put_counted.new.sides c.in-Ok.ensures c.raise-topped.result c.raise-topped.new.counts c.raise-topped.ensures.tops c.raise-topped.ensures.counts_are)
+    rw (c.from.ensures ∙ as_number c.in-Ok.placed.new, c.from-2.ensures ∙ as_number c.raise-topped.result)
+    (gained_set c.args.sides.now c.args.empty c.args.a c.args.m c.in-Ok.placed c.put_counted.new.sides c.in-Ok.ensures (indicator c.raise-topped.result) c.raise-topped.new.counts c.raise-topped.ensures.tops c.raise-topped.ensures.counts_are)
