@@ -31,6 +31,9 @@ pub record Agreeing (s : List Binding) (i : ℕ) (rest : List Binding) : Type 0 
   pub left : drop i s ≡ rest
   pub agree : AllPass i (empty_agree s)
 
+pub agreeing_start : (s rest : List Binding) → s ≡ rest → Agreeing s 0 rest
+agreeing_start s rest e = record { left = e; agree = λ j l. absurd (omega (l, arith)) }
+
 module _ (s : List Binding) (i : ℕ) (rest : List Binding) (r : Agreeing s i rest) where
   pub agreeing_end : rest ≡ [] → position_of (first_wrongly_empty s) ≡ None
   unfolding first_wrongly_empty
@@ -49,31 +52,32 @@ module _ (s : List Binding) (i : ℕ) (rest : List Binding) (r : Agreeing s i re
     wrong_here f = rw add-one (position_some (fails_first (length s) (empty_agree s) i (record { inside = agreeing_inside; before = r.agree; fails = f })))
 
     -- the code counts positions from 1
-    first_same : eqb (i + 1) 1 ≡ eqb i 0
-    first_same = elim (dec_eq i 0) [
-      | yes q ↦ rw (eq-eqb (i + 1) 1 (omega arith), eq-eqb i 0 q)
-      | no d ↦ rw (ne_eqb (i + 1) 1 (λ q. d (omega arith)), ne_eqb i 0 d)
-    ]
-
-    pub input_wrong : beq (eqb b.input 0) (eqb (i + 1) 1) ≡ false → position_of (first_wrongly_empty s) ≡ Some (i + 1)
-    input_wrong f = wrong_here (rw (test, rw first_same at f))
-
-    -- the code tells the last position by the number of words
-    module _ (size : ℕ) (w : size ≡ 3 * length s) where
-      last_same : eqb (3 * (i + 1)) size ≡ eqb (i + 1) (length s)
-      last_same = elim (dec_eq (i + 1) (length s)) [
-        | yes q ↦ rw (eq-eqb (3 * (i + 1)) size (omega arith), eq-eqb (i + 1) (length s) q)
-        | no d ↦ rw (ne_eqb (3 * (i + 1)) size (λ q. d (omega arith)), ne_eqb (i + 1) (length s) d)
+    module _ (position : ℕ) (p : position ≡ i + 1) where
+      first_same : eqb position 1 ≡ eqb i 0
+      first_same = elim (dec_eq i 0) [
+        | yes q ↦ rw (eq-eqb position 1 (omega (arith, p, q)), eq-eqb i 0 q)
+        | no d ↦ rw (ne_eqb position 1 (λ q. d (omega (arith, p, q))), ne_eqb i 0 d)
       ]
 
-      pub output_wrong : beq (eqb b.output 0) (eqb (3 * (i + 1)) size) ≡ false → position_of (first_wrongly_empty s) ≡ Some (i + 1)
-      output_wrong f = wrong_here (test ∙ simp (rw last_same at f, and-false))
+      pub input_wrong : beq (eqb b.input 0) (eqb position 1) ≡ false → position_of (first_wrongly_empty s) ≡ Some position
+      input_wrong f = rw p (wrong_here (rw (test, rw first_same at f)))
 
-      pub agreeing_next : beq (eqb b.input 0) (eqb (i + 1) 1) ≡ true → beq (eqb b.output 0) (eqb (3 * (i + 1)) size) ≡ true → Agreeing s (i + 1) rest'
-      agreeing_next x y = record {
-        left = (drop_head s i b rest' b (r.left ∙ e)).2;
-        agree = pass_more (empty_agree s) i r.agree (test ∙ and_both (rw first_same at x) (rw last_same at y));
-      }
+      -- the code tells the last position by the number of words
+      module _ (size : ℕ) (w : size ≡ 3 * length s) where
+        last_same : eqb (3 * position) size ≡ eqb (i + 1) (length s)
+        last_same = elim (dec_eq (i + 1) (length s)) [
+          | yes q ↦ rw (eq-eqb (3 * position) size (omega (arith, p, q, w)), eq-eqb (i + 1) (length s) q)
+          | no d ↦ rw (ne_eqb (3 * position) size (λ q. d (omega (arith, p, q, w))), ne_eqb (i + 1) (length s) d)
+        ]
+
+        pub output_wrong : beq (eqb b.output 0) (eqb (3 * position) size) ≡ false → position_of (first_wrongly_empty s) ≡ Some position
+        output_wrong f = rw p (wrong_here (test ∙ simp (rw last_same at f, and-false)))
+
+        pub agreeing_next : beq (eqb b.input 0) (eqb position 1) ≡ true → beq (eqb b.output 0) (eqb (3 * position) size) ≡ true → Agreeing s (i + 1) rest'
+        agreeing_next x y = record {
+          left = (drop_head s i b rest' b (r.left ∙ e)).2;
+          agree = pass_more (empty_agree s) i r.agree (test ∙ and_both (rw first_same at x) (rw last_same at y));
+        }
 
 -- ---- the chain from refusal 7 on
 

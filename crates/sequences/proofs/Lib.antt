@@ -1,5 +1,6 @@
 -- The laws of the definitions in specs/, by concept.
 pub mod WordLaws
+pub mod NumberLaws
 pub mod LimitLaws
 pub mod RunLaws
 pub mod GainLaws

@@ -31,8 +31,8 @@ pub record Passed (net : Net) (s : List Binding) (i : ℕ) (rest : List Binding)
   pub all_on : AllPass i (both_on net s)
 
 module _ (net : Net) (s : List Binding) where
-  pub passed_none : Passed net s 0 s
-  passed_none = record { left = refl; all_on = λ j l. absurd (omega arith) }
+  pub passed_none : (rest : List Binding) → s ≡ rest → Passed net s 0 rest
+  passed_none rest e = record { left = e; all_on = λ j l. absurd (omega arith) }
 
   module _ (i : ℕ) (rest : List Binding) (r : Passed net s i rest) where
     pub all_passed : rest ≡ [] → position_of (first_missing net s) ≡ None

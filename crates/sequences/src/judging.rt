@@ -43,9 +43,7 @@ fn first_missing(net: &Net, words: &[u32]) -> Option<u32>
 {
     let mut missing: Option<u32> = None;
     // In 32 bits, not by `enumerate`: of a count as wide as the length a compiler makes a division of the length by 3.
-    let mut position: u32 = 0;
-    'positions: for binding in bindings(words) {
-        position += 1;
+    'positions: for (position, binding) in (1u32..).zip(bindings(words)) {
         'input: {
             for x in net.inputs.sets(binding.activity) {
                 if *x == binding.input {

@@ -54,9 +54,7 @@ fn first_wrongly_empty(words: &[u32]) -> Option<u32>
     ensures { result ≡ position_of (first_wrongly_empty (bindings words.now)) }
 {
     // In 32 bits, not by `enumerate`: of a count as wide as the length a compiler makes a division of the length by 3.
-    let mut position: u32 = 0;
-    for binding in bindings(words) {
-        position += 1;
+    for (position, binding) in (1u32..).zip(bindings(words)) {
         let is_first = position == 1;
         let is_last = 3 * position as usize == words.len();
         if (binding.input == 0) != is_first || (binding.output == 0) != is_last {

@@ -20,9 +20,7 @@ pub fn run(words: &[u32]) -> Result<u32, Refused>
     let mut total: u32 = 0;
     let mut peak: u32 = 0;
     // In 32 bits, not by `enumerate`: of a count as wide as the length a compiler makes a division of the length by 3.
-    let mut position: u32 = 0;
-    for binding in bindings(words) {
-        position += 1;
+    for (position, binding) in (1u32..).zip(bindings(words)) {
         let Some(after) = due.step(total, binding) else {
             return Err(Refusal::NotPossible.at(position));
         };

@@ -1,6 +1,7 @@
-use Rattle.std.proofs.Common.{◌≡◌, None, drop}
+use Rattle.std.proofs.Common.{◌≡◌, None, drop, length}
 use Rattle.obligations.specs.Sequence.{bindings}
 use Rattle.net.specs.Lists.{listed}
+use Rattle.sequences.proofs.NumberLaws.{Numbered}
 use Rattle.sequences.proofs.MissingLaws.{Passed}
 use Rattle.sequences.proofs.judging.first_missing.Given as goal
 
@@ -12,5 +13,6 @@ invariant-loop-y l = listed l.binding.output l.y-items ≡ listed l.binding.outp
 
 abbrev pub invariant-positions : goal.invariant-positions
 invariant-positions l =
-    (goal.iterator-positions).can_next l.binding-iterator × (goal.iterator-positions).is_finite l.binding-iterator
-    × (l.missing ≡ None) × Passed l.net (bindings l.words) l.position (bindings l.binding-iterator.rest.now)
+    (goal.iterator-positions).can_next l.position-iterator × (goal.iterator-positions).is_finite l.position-iterator
+    × (l.missing ≡ None)
+    × Numbered (length (bindings l.words)) (λ i. Passed l.net (bindings l.words) i (bindings l.position-iterator.b.rest.now)) l.position-iterator.a.start

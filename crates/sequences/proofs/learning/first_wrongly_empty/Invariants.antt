@@ -1,8 +1,10 @@
+use Rattle.std.specs.Prelude.{length}
 use Rattle.obligations.specs.Sequence.{bindings}
 use Rattle.sequences.proofs.LearnLaws.{Agreeing}
+use Rattle.sequences.proofs.NumberLaws.{Numbered}
 use Rattle.sequences.proofs.learning.first_wrongly_empty.Given as goal
 
-abbrev pub invariant-loop-binding : goal.invariant-loop-binding
-invariant-loop-binding l =
-    (goal.iterator-loop-binding).can_next l.binding-iterator × (goal.iterator-loop-binding).is_finite l.binding-iterator
-    × Agreeing (bindings l.words) l.position (bindings l.binding-iterator.rest.now)
+abbrev pub invariant-loop-position : goal.invariant-loop-position
+invariant-loop-position l =
+    (goal.iterator-loop-position).can_next l.position-iterator × (goal.iterator-loop-position).is_finite l.position-iterator
+    × Numbered (length (bindings l.words)) (λ i. Agreeing (bindings l.words) i (bindings l.position-iterator.b.rest.now)) l.position-iterator.a.start
