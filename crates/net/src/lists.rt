@@ -17,8 +17,8 @@ pub fn all_listed(list: &[u32], other: &[u32]) -> bool
     list.iter().all(|m| is_listed(other, *m))
 }
 
-// Whether the list strictly ascends, its first element above 0, which is the empty set. A loop: `is_sorted` lets equals pass, and
-// `is_sorted_by` would need a test of the first element beside it, which here is the turn from 0.
+// Whether the list strictly ascends, its first element above 0, which is the empty set. A loop, since
+// `is_sorted` lets equals pass, and `is_sorted_by` says nothing of the first element.
 pub fn ascends(list: &[u32]) -> bool
     ensures { result ≡ ascends_above 0 list.now }
 {
