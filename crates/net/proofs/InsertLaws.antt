@@ -9,27 +9,27 @@ use mathlib.Core.Path.{◌≡◌, refl, sym, ap, ◌∙◌}
 use mathlib.Core.Bool.{Bool, true, false, ◌||◌, or_comm, or_assoc}
 use mathlib.Core.List.{List, [], ◌∷◌, ◌++◌, append_assoc}
 use lib.Dec.{eqb}
-use lib.ListN.{length, take, drop, get_or, set, drop_of_length-le, length-drop, length-append}
-use lib.Seq.{length-take-le, take-take, take-add, drop-cons, drop-drop, take-suc, set-append_seam}
+use lib.ListN.{length, take, drop, get_or, set, length-drop, length-append}
+use lib.Seq.{length-take-le, take-take, take-add, drop-drop, take-suc, set-append_seam}
 use borrow.Author.Tests.{eqb-false, lt-ltb, le-ltb}
 use Rattle.obligations.proofs.BoolLaws.{or_neither}
 use Rattle.std.specs.List.{copy_within}
 use Rattle.net.specs.Lists.{listed, place_in, insert_at, insert, splice, ascends_above}
 use Rattle.net.proofs.ListLaws.{length_part, drop-take, ascends_head, ascends_tail}
 
--- ---- the place of an element, from place i of a list on
+-- ---- the place of an element
 
-pub place_stop : (m i : ℕ) (l : List ℕ) → i < length l → m ≤ get_or l i 0 → place_in m (drop i l) ≡ 0
+pub place-none : (m : ℕ) → place_in m [] ≡ 0
 unfolding place_in
-place_stop m i l h e = rw (drop-cons l i 0 h, le-ltb (get_or l i 0) m e)
+place-none m = refl
 
-pub place-next : (m i : ℕ) (l : List ℕ) → i < length l → get_or l i 0 < m → place_in m (drop i l) ≡ suc (place_in m (drop (i + 1) l))
+pub place-here : (m x : ℕ) (xs : List ℕ) → m ≤ x → place_in m (x ∷ xs) ≡ 0
 unfolding place_in
-place-next m i l h e = rw (add-one, drop-cons l i 0 h, lt-ltb (get_or l i 0) m e)
+place-here m x xs h = rw (le-ltb x m h)
 
-pub place_end : (m i : ℕ) (l : List ℕ) → length l ≤ i → place_in m (drop i l) ≡ 0
+pub place-behind : (m x : ℕ) (xs : List ℕ) → x < m → place_in m (x ∷ xs) ≡ place_in m xs + 1
 unfolding place_in
-place_end m i l h = rw (drop_of_length-le l h)
+place-behind m x xs h = rw (lt-ltb x m h) (sym (add-one (place_in m xs)))
 
 pub place-within : (m : ℕ) (l : List ℕ) → place_in m l ≤ length l
 unfolding place_in

@@ -65,18 +65,6 @@ none_listed m = refl
 
 -- ---- all_listed
 
-pub all_listed_stop : (i : ℕ) (l other : List ℕ) → i < length l → listed (get_or l i 0) other ≡ false → all_listed (drop i l) other ≡ false
-unfolding all_listed
-all_listed_stop i l other h e = rw (drop-cons l i 0 h, e)
-
-pub all_listed-next : (i : ℕ) (l other : List ℕ) → i < length l → listed (get_or l i 0) other ≡ true → all_listed (drop i l) other ≡ all_listed (drop (i + 1) l) other
-unfolding all_listed
-all_listed-next i l other h e = rw (add-one, drop-cons l i 0 h, e)
-
-pub all_listed-end : (i : ℕ) (l other : List ℕ) → length l ≤ i → all_listed (drop i l) other ≡ true
-unfolding all_listed
-all_listed-end i l other h = rw (drop_of_length-le l h)
-
 pub all_listed-at : (m : ℕ) (l other : List ℕ) → all_listed l other ≡ true → listed m l ≡ true → listed m other ≡ true
 unfolding all_listed listed
 all_listed-at m [] other h k = absurd (false-not-true refl k)

@@ -46,9 +46,9 @@ zero-past l a n long h f =
     let k : n + i < sets = omega (arith, length_part l (sets * a) sets (omega arith), simp length-drop at u) in
     get_or-drop n (block l a) i 0 ∙ block_at l a (n + i) k ∙ f (n + i) (omega arith) k)
 
--- they are the part from the n-th place of activity a to its last
-pub past_part : (l : List ℕ) (a n : ℕ) → n ≤ sets → take (sets * a + sets - (sets * a + n)) (drop (sets * a + n) l) ≡ drop n (block l a)
-past_part l a n h =
+-- they are the part from the n-th place of activity a to its last, and are none if n is above 16
+pub past_part : (l : List ℕ) (a n : ℕ) → take (sets * a + sets - (sets * a + n)) (drop (sets * a + n) l) ≡ drop n (block l a)
+past_part l a n =
     let e : sets * a + sets - (sets * a + n) ≡ sets - n = omega arith in
     rw (e, drop-take n sets (drop (sets * a) l), drop-drop n (sets * a) l)
 

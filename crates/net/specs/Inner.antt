@@ -1,15 +1,20 @@
--- What inner functions leave: no sentence of the papers speaks of these.
+-- What inner functions leave and lend: no sentence of the papers speaks of these.
 use Rattle.std.specs.Prelude.{ℕ, ◌<◌, ◌≤◌, ◌≡◌, true, List, Result, Ok, Err, length, get_or}
+use Rattle.std.specs.Borrow.{Lends, MutBor, Fml}
 use Rattle.obligations.specs.Limits.{activities}
 use Rattle.net.specs.Limits.{sets, places}
 use Rattle.obligations.specs.Tests.{indicator}
 use Rattle.net.specs.Refusals.{Says, accepted, refused, refusal_number}
 use Rattle.net.specs.Sides.{place_on}
 use Rattle.net.specs.Orderly.{sides_ok}
-use Rattle.net.specs.Put.{side_says, put_masks, put_lengths, put_counts}
+use Rattle.net.specs.Put.{side_says, put_masks, put_lengths, put_counts, with_sides}
+use Rattle.net.specs.declared.Net.{Net}
 use Rattle.net.specs.declared.putting.Placed.{Placed}
 use Rattle.net.specs.declared.refusal.Refusal.{Refusal}
+use Rattle.net.specs.declared.sides.Side.{Side}
 use Rattle.net.specs.declared.sides.Sides.{Sides}
+use Rattle.net.specs.contracts.Net.{the_row}
+use Rattle.net.specs.contracts.sides.Sides.{the_row as sides_row}
 
 -- arrays as long as the record's, with at most 16 sets on each side
 pub record ArraysFit (masks lengths : List ℕ) : Type 0 where
@@ -43,3 +48,7 @@ pub record SideDone (masks lengths : List ℕ) (empty a m : ℕ) (r : Result Pla
 pub record CountedDone (masks lengths counts : List ℕ) (empty a m : ℕ) (r : Result Placed Refusal) (masks' lengths' counts' : List ℕ) : Type 0 where
   pub side_done : SideDone masks lengths empty a m r masks' lengths'
   pub counts_are : counts' ≡ put_counts masks lengths counts empty a m
+
+-- r lends the net's sides of one kind: what is last behind it are those sides, and the rest stays
+abbrev pub LendsSides : MutBor Net → Side → MutBor Sides → Fml
+LendsSides net side r = Lends the_row sides_row net r (λ sides. with_sides net.now side sides.masks sides.lengths sides.counts)

@@ -38,10 +38,5 @@ fn sides_within<'a>(sides: &'a Sides, other: &'a Sides) -> bool
     requires { SidesFit sides.now × SidesFit other.now }
     ensures { result ≡ sides_within sides.now other.now }
 {
-    for a in 0..ACTIVITIES {
-        if !lists::all_listed(sides.sets(a), other.sets(a)) {
-            return false;
-        }
-    }
-    true
+    (0..ACTIVITIES).all(|a| lists::all_listed(sides.sets(a), other.sets(a)))
 }

@@ -40,6 +40,34 @@ pub struct Net {
     pub outputs: Sides,
 }
 
+impl Net {
+    ghost use Rattle.std.specs.Prelude.{◌≡◌};
+    ghost use Rattle.std.specs.Borrow.{sem};
+    ghost use Rattle.net.specs.Sides.{sides_of, empty_at};
+    ghost use Rattle.net.specs.Inner.{LendsSides};
+
+    // The sides of one kind, lent to be changed.
+    pub fn sides_mut(&mut self, side: Side) -> &mut Sides
+        ensures* writes_back { sem 𝓛 (LendsSides self.entry side result) }
+        ensures value { result.now ≡ sides_of self.old side }
+    {
+        match side {
+            Side::Input => &mut self.inputs,
+            Side::Output => &mut self.outputs,
+        }
+    }
+
+    // The activity whose side of this kind holds just the empty set: the start for inputs, the end for outputs.
+    pub fn empty_at(&self, side: Side) -> u32
+        ensures { result ≡ empty_at self.now side }
+    {
+        match side {
+            Side::Input => self.start,
+            Side::Output => self.end,
+        }
+    }
+}
+
 // What a call that returns a net answers, and that net.
 #[derive(Clone, Copy)]
 pub struct Returned<T> {

@@ -14,15 +14,11 @@ pub fn is_listed(list: &[u32], m: u32) -> bool
 pub fn all_listed(list: &[u32], other: &[u32]) -> bool
     ensures { result ≡ all_listed list.now other.now }
 {
-    for m in list {
-        if !is_listed(other, *m) {
-            return false;
-        }
-    }
-    true
+    list.iter().all(|m| is_listed(other, *m))
 }
 
-// Whether the list strictly ascends, its first element above 0, which is the empty set.
+// Whether the list strictly ascends, its first element above 0, which is the empty set. A loop, since
+// `is_sorted` lets equals pass, and `is_sorted_by` says nothing of the first element.
 pub fn ascends(list: &[u32]) -> bool
     ensures { result ≡ ascends_above 0 list.now }
 {
@@ -52,10 +48,5 @@ pub fn all_zero(list: &[u32]) -> bool
 pub fn place_in(list: &[u32], m: u32) -> usize
     ensures { result ≡ place_in m list.now }
 {
-    for (i, x) in list.iter().enumerate() {
-        if *x >= m {
-            return i;
-        }
-    }
-    list.len()
+    list.iter().position(|x| *x >= m).unwrap_or(list.len())
 }

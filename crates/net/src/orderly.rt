@@ -37,15 +37,12 @@ fn kind_ok(sides: &Sides, empty: u32) -> bool
 fn sides_ok(sides: &Sides, empty: u32) -> bool
     ensures { result ≡ sides_ok sides.now.masks sides.now.lengths empty }
 {
-    for a in 0..ACTIVITIES {
+    (0..ACTIVITIES).all(|a| {
         let from = (SETS * a) as usize;
         let to = from + SETS as usize;
         let n = sides.lengths[a as usize];
-        if !block_ok(&sides.masks[from..to], n, a == empty) {
-            return false;
-        }
-    }
-    true
+        block_ok(&sides.masks[from..to], n, a == empty)
+    })
 }
 
 // Whether the places past each side's sets have count 0, on every side of one kind, none of which has more than 16 sets.
@@ -53,14 +50,11 @@ fn counts_ok(sides: &Sides) -> bool
     requires { SidesFit sides.now }
     ensures { result ≡ counts_ok sides.now.counts sides.now.lengths }
 {
-    for a in 0..ACTIVITIES {
+    (0..ACTIVITIES).all(|a| {
         let from = (SETS * a) as usize;
         let used = from + sides.lengths[a as usize] as usize;
-        if !lists::all_zero(&sides.counts[used..from + SETS as usize]) {
-            return false;
-        }
-    }
-    true
+        lists::all_zero(&sides.counts[used..from + SETS as usize])
+    })
 }
 
 // Whether the 16 places of a side with n sets are as they have to be; only: the side has to hold just the empty set.

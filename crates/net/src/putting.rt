@@ -1,4 +1,7 @@
 // Put: one set added to one side.
+//
+// `OrderlySides` and `a < activities` are asked in each contract and aren't types: the words of a net that a caller gives may be any
+// and are tested once, at the call; a type of tested sides would have to be made anew of each lent net.
 
 ghost use Rattle.std.specs.Prelude.{◌≡◌, ◌&&◌, ◌+◌, ◌*◌, ◌-◌, ◌<◌, ◌≤◌, ◌∷◌, ltb, eqb, length, get_or, take, drop};
 ghost use Rattle.obligations.specs.Limits.{activities};
@@ -37,16 +40,8 @@ fn put_in(net: &mut Net, side: Side, a: u32, m: u32) -> Result<bool, Refused>
     if a >= ACTIVITIES {
         return Err(Refusal::NoActivity.at(0));
     }
-    let placed = match side {
-        Side::Input => {
-            let start = net.start;
-            put_counted(&mut net.inputs, start, a, m)?
-        }
-        Side::Output => {
-            let end = net.end;
-            put_counted(&mut net.outputs, end, a, m)?
-        }
-    };
+    let empty = net.empty_at(side);
+    let placed = put_counted(net.sides_mut(side), empty, a, m)?;
     Ok(placed.new)
 }
 

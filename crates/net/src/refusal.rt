@@ -47,6 +47,7 @@ impl Refusal {
 }
 
 // A refusal and its place: a position, an activity, a line or a net, as each call says, and 0 where it is of the whole call.
+// No `Option`: callers print number and place, and a refusal of the whole call is listed with place 0.
 #[derive(Clone, Copy, Debug, PartialEq, Eq)]
 pub struct Refused {
     pub refusal: Refusal,

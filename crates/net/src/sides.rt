@@ -11,6 +11,8 @@ pub enum Side {
 
 // All sides of one kind. The sets of activity a's side are the first lengths[a] masks from place 16 * a on. At the same places of
 // counts it is counted how often learned sequences have used each set.
+// Fixed arrays side by side, and no list of lists: so a net is one piece of memory of known size, and what isn't used is 0, so that
+// two nets are equal exactly if they are so word by word.
 #[derive(Clone, Copy, PartialEq, Eq)]
 pub struct Sides {
     pub masks: [u32; PLACES],

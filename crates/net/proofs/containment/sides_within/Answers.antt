@@ -1,23 +1,18 @@
--- `sides_within` meets its contract: the loop keeps that every side passed has its sets among the other's. Assumes
--- nothing.
-use Rattle.std.proofs.Common.{◌≡◌, arith, below_more}
-use mathlib.Core.Path.{sym, ◌∙◌}
+-- `sides_within` meets its contract: `all` asks of each activity what the definition asks. Assumes nothing.
+use Rattle.std.proofs.Common.{refl, ◌∙◌, rules}
+use Rattle.std.proofs.lemmas.Iterator.{YieldsList-from_range}
+use Rattle.std.proofs.lemmas.Iterator.Search.{all_from_yields_List}
 use Rattle.obligations.specs.Limits.{activities}
+use Rattle.net.specs.Lists.{all_listed}
+use Rattle.net.specs.Sides.{side_in}
 use Rattle.net.specs.Contained.{sides_within}
-use Rattle.net.proofs.BelowLaws.{below_true, below_false}
+use Rattle.net.proofs.BelowLaws.{below_list}
 use Rattle.net.proofs.containment.sides_within.Goals as goal
-
-pub returns-then-not-all_listed : goal.returns-then-not-all_listed
-unfolding sides_within
-returns-then-not-all_listed c =
-    sym (below_false activities _ c.loop-a.a c.loop-a-test.true (sym (rw (c.sets.ensures, c.sets-in-loop-a.ensures) at c.all_listed.ensures) ∙ c.if-not-all_listed.true))
-
-pub loop-a-preserved : goal.loop-a-preserved
-loop-a-preserved c =
-    below_more _ _ c.loop-a.invariant (sym (rw (c.sets.ensures, c.sets-in-loop-a.ensures) at c.all_listed.ensures) ∙ c.if-not-all_listed.false)
 
 pub returns : goal.returns
 unfolding sides_within
 returns c =
-    let e : c.loop-a.a ≡ activities = omega arith in
-    sym (below_true activities _ (rw e at c.loop-a.invariant))
+    let s = c.args.sides.now in
+    let o = c.args.other.now in
+    all_from_yields_List (λ k. all_listed (side_in s.masks s.lengths k) (side_in o.masks o.lengths k)) _ _ c.all.result c.all.ensures.ran (YieldsList-from_range 0 activities activities refl refl) (λ x b q h. search rules)
+    ∙ below_list activities _

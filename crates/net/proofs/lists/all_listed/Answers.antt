@@ -1,22 +1,12 @@
--- `all_listed` meets its contract: the loop keeps that the answer for the whole list is the answer for the rest.
--- Assumes nothing.
-use native.Mathlib.Omega.{arith}
-use mathlib.Core.Path.{sym, ◌∙◌}
-use borrow.Author.Tests.{not-true, not-false}
-use Rattle.net.proofs.ListLaws.{all_listed_stop, all_listed-next, all_listed-end}
+-- `all_listed` meets its contract: `all` asks of each element what the definition asks. Assumes nothing.
+use Rattle.std.proofs.Common.{rules}
+use Rattle.std.proofs.lemmas.Iterator.{YieldsList-from_slice}
+use Rattle.std.proofs.lemmas.Iterator.Search.{all_from_yields_List}
+use Rattle.net.specs.Lists.{listed, all_listed}
 use Rattle.net.proofs.lists.all_listed.Goals as goal
 
-pub returns-then-not-is_listed : goal.returns-then-not-is_listed
-returns-then-not-is_listed c =
-    let a = c.args in
-    sym (c.loop-m.invariant ∙ all_listed_stop c.loop-m.m-index a.list.now a.other.now (omega arith) (sym c.is_listed.ensures ∙ not-true _ c.if-not-is_listed.true-raw))
-
-pub loop-m-preserved : goal.loop-m-preserved
-loop-m-preserved c =
-    let a = c.args in
-    c.loop-m.invariant ∙ all_listed-next c.loop-m.m-index a.list.now a.other.now (omega arith) (sym c.is_listed.ensures ∙ not-false _ c.if-not-is_listed.false-raw)
-
 pub returns : goal.returns
+unfolding all_listed
 returns c =
     let a = c.args in
-    sym (c.loop-m.invariant ∙ all_listed-end c.loop-m.m-index a.list.now a.other.now (omega arith))
+    all_from_yields_List (λ x. listed x a.other.now) _ _ c.all.result c.all.ensures.ran (YieldsList-from_slice a.list.now (search rules)) (λ x b q h. search rules)

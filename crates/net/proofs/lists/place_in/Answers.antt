@@ -1,17 +1,13 @@
--- `place_in` meets its contract: the loop keeps that the place in the whole list is the one in the rest, behind those passed.
--- Assumes nothing.
-use native.Mathlib.Omega.{arith}
-use Rattle.net.proofs.InsertLaws.{place_stop, place-next, place_end}
+-- `place_in` meets its contract: the elements before the first that isn't below m are below it. Assumes nothing.
+use Rattle.std.proofs.Common.{◌≤◌, ◌<◌, sym, ◌∙◌, rules}
+use Rattle.std.proofs.lemmas.Iterator.{YieldsList-from_slice, IsFirst-from_position, index_from_first}
+use Rattle.net.specs.Lists.{place_in}
+use Rattle.net.proofs.InsertLaws.{place-here, place-behind, place-none}
 use Rattle.net.proofs.lists.place_in.Goals as goal
-
-pub returns-then-x-m : goal.returns-then-x-m
-returns-then-x-m c =
-    omega (arith, c.loop-i.invariant, place_stop c.args.m c.loop-i.i c.args.list.now (omega arith) c.if-x-m.true)
-
-pub loop-i-preserved : goal.loop-i-preserved
-loop-i-preserved c =
-    omega (arith, c.loop-i.invariant, place-next c.args.m c.loop-i.i c.args.list.now (omega arith) c.if-x-m.false)
 
 pub returns : goal.returns
 returns c =
-    omega (arith, c.loop-i.invariant, place_end c.args.m c.loop-i.i c.args.list.now (omega arith))
+    let a = c.args in
+    let m = a.m in
+    let found = IsFirst-from_position _ _ c.position.result (λ x. m ≤ x) (λ x. x < m) c.position.ensures.ran (YieldsList-from_slice a.list.now (search rules)) (λ x q h. search rules) (λ x q h. search rules) in
+    c.unwrap_or.ensures ∙ sym (index_from_first (place_in m) (λ x. m ≤ x) (λ x. x < m) (place-none m) (place-here m) (place-behind m) a.list.now c.position.result found)

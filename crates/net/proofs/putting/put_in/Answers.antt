@@ -5,7 +5,6 @@ use Rattle.std.proofs.lemmas.Result.{err_from_is_err_and}
 use borrow.Author.Tests.{le-ltb}
 use mathlib.Core.Path.{sym}
 use Rattle.net.specs.Put.{put_says, put_gives, grows}
-use Rattle.net.specs.declared.sides.Side.TheVariants.{Input, Output}
 use Rattle.net.proofs.OrderlyLaws.{orderly_sides}
 use Rattle.net.proofs.PutLaws.{put_done}
 use Rattle.net.proofs.putting.put_in.Goals as goal
@@ -24,30 +23,15 @@ returns-then-a-ge-ACTIVITIES c =
     record { says = rw (c.at-then-a-ge-ACTIVITIES.ensures, ← e, f); gives = rw (← e, f) }
 
 pub put_counted-requires-clause-orderly : goal.put_counted-requires-clause-orderly
-put_counted-requires-clause-orderly c = orderly_sides c.args.net.now (sym c.if-not-is_orderly.ensures) Input
+put_counted-requires-clause-orderly c =
+    rw (c.sides_mut.ensures.value, c.empty_at-empty.ensures) (orderly_sides c.args.net.now (sym c.if-not-is_orderly.ensures) c.args.side)
 
-pub returns-in_err-placed-in-Input : goal.returns-in_err-placed-in-Input
-returns-in_err-placed-in-Input c =
+pub returns-in_err-placed : goal.returns-in_err-placed
+returns-in_err-placed c =
     let p = err_from_is_err_and c.from_residual.result c.from_residual.ensures.1 in
-    rw (c.in-Input.is, p.1)
-    (put_done c.args.net.now Input c.args.a c.args.m _ _ _ _ _ (sym c.if-not-is_orderly.ensures) c.if-a-ge-ACTIVITIES.false (rw p.2) c.in_err-placed-in-Input.ensures)
+    rw p.1
+    (put_done c.args.net.now c.args.side c.args.a c.args.m _ _ _ _ _ (sym c.if-not-is_orderly.ensures) c.if-a-ge-ACTIVITIES.false (rw p.2) (rw (c.sides_mut.ensures.value, c.empty_at-empty.ensures) at c.in_err-placed.ensures))
 
-pub put_counted-requires-in-Output-clause-orderly : goal.put_counted-requires-in-Output-clause-orderly
-put_counted-requires-in-Output-clause-orderly c = orderly_sides c.args.net.now (sym c.if-not-is_orderly.ensures) Output
-
-pub returns-in_err-placed-in-Output : goal.returns-in_err-placed-in-Output
-returns-in_err-placed-in-Output c =
-    let r = c.from_residual-in_err-placed-in-Output in
-    let p = err_from_is_err_and r.result r.ensures.1 in
-    rw (c.in-Output.is, p.1)
-    (put_done c.args.net.now Output c.args.a c.args.m _ _ _ _ _ (sym c.if-not-is_orderly.ensures) c.if-a-ge-ACTIVITIES.false (rw p.2) c.in_err-placed-in-Output.ensures)
-
-pub returns-in_ok-placed-in-Input : goal.returns-in_ok-placed-in-Input
-returns-in_ok-placed-in-Input c =
-    rw c.in-Input.is
-    (put_done c.args.net.now Input c.args.a c.args.m _ _ _ _ _ (sym c.if-not-is_orderly.ensures) c.if-a-ge-ACTIVITIES.false refl c.in_ok-placed-in-Input.ensures)
-
-pub returns-in_ok-placed-in-Output : goal.returns-in_ok-placed-in-Output
-returns-in_ok-placed-in-Output c =
-    rw c.in-Output.is
-    (put_done c.args.net.now Output c.args.a c.args.m _ _ _ _ _ (sym c.if-not-is_orderly.ensures) c.if-a-ge-ACTIVITIES.false refl c.in_ok-placed-in-Output.ensures)
+pub returns : goal.returns
+returns c =
+    put_done c.args.net.now c.args.side c.args.a c.args.m _ _ _ _ _ (sym c.if-not-is_orderly.ensures) c.if-a-ge-ACTIVITIES.false refl (rw (c.sides_mut.ensures.value, c.empty_at-empty.ensures) at c.in_ok-placed.ensures)
