@@ -55,16 +55,13 @@ pub fn read_row(text: &[u8], row: u64, out: &mut [u32]) -> Result<Option<Row>, R
         return Err(Refusal::OutsideLimits.at(0));
     }
     let first = begin(text, start())?;
-    // Line numbers are u32, and `enumerate` counts in usize.
-    let mut number = first.line;
-    for line in lines_of(&text[first.at..]) {
+    for (number, line) in (first.line..).zip(lines_of(&text[first.at..])) {
         let (read, trace) = row_line(number, line)?;
         // Row r is on line r + 1.
         if u64::from(number - 1) == row {
             fill_trace(trace, out);
             return Ok(Some(read));
         }
-        number += 1;
     }
     Ok(None)
 }

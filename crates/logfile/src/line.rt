@@ -8,6 +8,7 @@ ghost use Rattle.logfile.specs.Row.{fault_of, count_entries, parse_sessions, IsT
 use super::{LOG_ROWS, MOST_SESSIONS, Row};
 use net::{Refusal, Refused};
 use obligations::{ACTIVITIES, POSITIONS};
+use text::bytes::count_byte;
 use text::decimal::read_number;
 use text::fields::split;
 
@@ -51,20 +52,16 @@ fn read_sessions(field: &[u8]) -> Option<u32>
     Some(sessions)
 }
 
-// How many entries a trace has, if all are activities. Those past the last that a trace may have are tested too, since a wrong one
-// among them is refused by 14, which comes before 3; so they are counted by hand.
+// How many entries a trace has, if all are activities: one more than its spaces. Those past the last that a trace may have are
+// tested too, since a wrong one among them is refused by 14, which comes before 3.
 fn count_entries(trace: &[u8]) -> Option<usize>
     ensures { result ≡ count_entries trace.now }
 {
     if trace.is_empty() {
         return Some(0);
     }
-    let mut n: usize = 0;
-    for entry in split(trace, b' ') {
-        read_number(entry, ACTIVITIES - 1)?;
-        n += 1;
-    }
-    Some(n)
+    let all_read = split(trace, b' ').all(|entry| read_number(entry, ACTIVITIES - 1).is_some());
+    all_read.then_some(count_byte(trace, b' ') + 1)
 }
 
 // Writes the entries of a trace, which were found to be activities, to the buffer's front.

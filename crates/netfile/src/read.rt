@@ -70,7 +70,7 @@ fn read_ends(text: &[u8]) -> Result<(u32, u32, &[u8]), Refused>
     Ok((start, end, rows))
 }
 
-// What a line answers; its refusal gets its number. Not `map_err`: of what its closure gives a proof learns nothing at a `?`.
+// What a line answers; a refusal gets the line's number. Not `map_err`: of what its closure gives a proof learns nothing at a `?`.
 fn on_line<T>(number: u32, answer: Result<T, Refusal>) -> Result<T, Refused>
     ensures { result ≡ on_line number answer }
 {
@@ -81,17 +81,16 @@ fn on_line<T>(number: u32, answer: Result<T, Refusal>) -> Result<T, Refused>
 }
 
 // Puts the rows, which start at line 4, into an orderly net with counts 0. The net is changed in place, but for its counts.
+// Orderly and uncounted are clauses here and below, and no type: a net's words may be any, `fresh` made this one so in
+// `read_text`, and the type would serve these three functions alone.
 fn put_rows(net: &mut Net, rows: &[u8]) -> Result<(), Refused>
     requires orderly { orderly net.old ≡ true }
     requires uncounted { uncounted net.old ≡ net.old }
     requires short { length rows.now ≤ net_bytes }
     ensures { MatchResult result (λ _. read_as net.new ≡ read_rows 4 net.old (lines rows.now)) (λ r. refused_with r ≡ read_rows 4 net.old (lines rows.now)) }
 {
-    // Line numbers are u32, and `enumerate` counts in usize.
-    let mut number: u32 = 4;
-    for line in lines_of(rows) {
+    for (number, line) in (4u32..).zip(lines_of(rows)) {
         on_line(number, put_line(net, line))?;
-        number += 1;
     }
     Ok(())
 }

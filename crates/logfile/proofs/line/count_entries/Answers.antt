@@ -1,39 +1,26 @@
--- `count_entries` meets its contract. The loop's invariant: the entries counted and those left are the trace's, and all are numbers
--- exactly if those left are. Assumes nothing.
-use Rattle.std.proofs.Common.{sym, ap, ◌∙◌, length, arith}
+-- `count_entries` meets its contract: each of the trace's entries is tested, and they are one more than its spaces. Assumes nothing.
+use Rattle.std.proofs.Common.{rules, arith, ◌∙◌, ℕ, List}
+use Rattle.std.proofs.lemmas.Iterator.Consumers.{YieldsList-from_first}
+use Rattle.std.proofs.lemmas.Iterator.Search.{all_from_yields_List}
+use Rattle.std.specs.Prelude.{is_some}
 use Rattle.text.specs.Fields.{space, split}
-use Rattle.text.specs.Decimal.{all_numbers}
+use Rattle.text.specs.Decimal.{parse_number}
 use Rattle.text.specs.Members.{highest}
 use Rattle.text.specs.Reading.{fields_left}
-use Rattle.logfile.proofs.EntryLaws.{entries_none, entries_some, count_none, count_all, count-not, few_fields, counting-start, counting_refused, counting_more, counting_end}
+use Rattle.text.proofs.FieldLaws.{length-split}
+use Rattle.logfile.proofs.EntryLaws.{entries_none, entries_some, count_none, count_tested, few_fields, each_read}
 use Rattle.logfile.proofs.line.count_entries.Goals as goal
 
 pub returns-then-is_empty : goal.returns-then-is_empty
 returns-then-is_empty c = count_none c.args.trace.now (entries_none c.args.trace.now c.if-is_empty.ensures)
 
-pub loop-entry-init : goal.loop-entry-init
-loop-entry-init c =
-    counting-start (split space c.args.trace.now) (fields_left c.into_iter-entry-iterator.result) (ap fields_left c.into_iter-entry-iterator.ensures.into_iter_gives ∙ c.split-entry-items.ensures)
-
-pub returns-in_err-read_number : goal.returns-in_err-read_number
-returns-in_err-read_number c =
-    let t = c.args.trace.now in
-    let l = c.loop-entry in
-    let f = counting_refused (split space t) l.n (fields_left l.entry-iterator) l.invariant c.in-Some.entry.now (fields_left c.next.new.self) c.in-Some.ensures.steps (sym c.in_err-read_number.ensures) in
-    c.from_residual.ensures ∙ count-not t (ap (all_numbers highest) (entries_some t c.if-is_empty.ensures) ∙ f)
-
-pub overflow_add-n : goal.overflow_add-n
-overflow_add-n c = omega (arith, few_fields c.args.trace.now, c.loop-entry.invariant.total, ap length c.in-Some.ensures.steps)
-
-pub loop-entry-preserved : goal.loop-entry-preserved
-loop-entry-preserved c =
-    let l = c.loop-entry in
-    counting_more (split space c.args.trace.now) l.n (fields_left l.entry-iterator) l.invariant c.in-Some.entry.now (fields_left c.next.new.self) c.in_ok-read_number.field-0 c.in-Some.ensures.steps (sym c.in_ok-read_number.ensures)
+pub overflow_add-count_byte : goal.overflow_add-count_byte
+overflow_add-count_byte c = omega (arith, length-split space c.args.trace.now, few_fields c.args.trace.now, c.count_byte.ensures)
 
 pub returns : goal.returns
 returns c =
     let t = c.args.trace.now in
-    let l = c.loop-entry in
-    let e = entries_some t c.if-is_empty.ensures in
-    let f = counting_end (split space t) l.n (fields_left l.entry-iterator) l.invariant c.in-None.ensures.steps.0 in
-    count_all t l.n (ap (all_numbers highest) e ∙ f.0) (f.1 ∙ sym (ap length e))
+    let tested =
+    all_from_yields_List (λ (s : List ℕ). is_some (parse_number highest s)) c.all-all_read.new.self _ c.all-all_read.result c.all-all_read.ensures.ran
+    (YieldsList-from_first (λ x. x.now) fields_left (split space t) c.split.ensures) (λ x b q k. search rules) in
+    c.then_some.ensures ∙ count_tested t c.all-all_read.result c.count_byte.result (entries_some t c.if-is_empty.ensures) (tested ∙ each_read (split space t)) c.count_byte.ensures
