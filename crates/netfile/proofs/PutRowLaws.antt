@@ -8,7 +8,7 @@ use Rattle.obligations.specs.Limits.{activities}
 use Rattle.net.specs.Refusals.{Says}
 use Rattle.net.specs.Limits.{places}
 use Rattle.net.specs.Lists.{blank}
-use Rattle.net.specs.Sides.{masks_of, lengths_of, counts_of, empty_at, uncounted}
+use Rattle.net.specs.Sides.{sides_of, masks_of, lengths_of, counts_of, empty_at, uncounted}
 use Rattle.net.specs.Orderly.{orderly}
 use Rattle.net.specs.Put.{put_says, put_masks, put_lengths, put_gives, with_sides}
 use Rattle.net.specs.Inner.{placed_means, SideDone}
@@ -24,24 +24,25 @@ use Rattle.netfile.specs.NetFile.{row_gives}
 use Rattle.netfile.specs.Steps.{PutRow}
 use Rattle.netfile.specs.declared.line.SetRow.{SetRow}
 
-module _ (net : Net) (row : SetRow) (side : Side) (e : row.side ≡ side) (o : orderly net ≡ true) (u : uncounted net ≡ net) (h : row.activity < activities) (r : Result Placed Refusal) (sides : Sides)
-    (d : SideDone (masks_of net side) (lengths_of net side) (empty_at net side) row.activity row.set r sides.masks sides.lengths) (k : sides.counts ≡ counts_of net side) where
+module _ (net : Net) (row : SetRow) (o : orderly net ≡ true) (u : uncounted net ≡ net) (h : row.activity < activities) (r : Result Placed Refusal) (sides : Sides)
+    (d : SideDone (sides_of net row.side).masks (sides_of net row.side).lengths (empty_at net row.side) row.activity row.set r sides.masks sides.lengths) (k : sides.counts ≡ (sides_of net row.side).counts) where
   said : placed_means r ≡ put_says net row.side row.activity row.set
-  said = d.says ∙ sym (put_says_side net side row.activity row.set o h) ∙ rw e
+  said = d.says ∙ sym (put_says_side net row.side row.activity row.set o h)
 
   no_counts : (t : Side) → counts_of net t ≡ blank places
   no_counts Input = sym (ap (λ (n : Net). n.inputs.counts) u)
   no_counts Output = sym (ap (λ (n : Net). n.outputs.counts) u)
 
-  given : with_sides net side sides.masks sides.lengths sides.counts ≡ put_gives net row.side row.activity row.set
+  given : with_sides net row.side sides.masks sides.lengths sides.counts ≡ put_gives net row.side row.activity row.set
   given =
+      let side = row.side in
       let P : Net → Type 0 = λ n. put_gives n side row.activity row.set ≡ with_sides n side (put_masks (masks_of n side) (lengths_of n side) (empty_at n side) row.activity row.set) (put_lengths (masks_of n side) (lengths_of n side) (empty_at n side) row.activity row.set) (blank places) in
-      rw (e, d.masks_are, d.lengths_are, k ∙ no_counts side) (sym (subst P u (uncounted-put net side row.activity row.set (uncounted-orderly net o) h)))
+      rw (d.masks_are, d.lengths_are, k ∙ no_counts side) (sym (subst P u (uncounted-put net side row.activity row.set (uncounted-orderly net o) h)))
 
-  pub row_put : (p : Placed) → r ≡ Ok p → PutRow net (Ok row) (Ok tt) (with_sides net side sides.masks sides.lengths sides.counts)
+  pub row_put : (p : Placed) → r ≡ Ok p → PutRow net (Ok row) (Ok tt) (with_sides net row.side sides.masks sides.lengths sides.counts)
   row_put p q = record { put = ap (λ (s : Says). s.ok) (ap placed_means (sym q) ∙ said); refusal = tt; gives = given }
 
-  pub row_refused : (n : Refusal) → r ≡ Err n → PutRow net (Ok row) (Err n) (with_sides net side sides.masks sides.lengths sides.counts)
+  pub row_refused : (n : Refusal) → r ≡ Err n → PutRow net (Ok row) (Err n) (with_sides net row.side sides.masks sides.lengths sides.counts)
   row_refused n q = let f = ap placed_means (sym q) ∙ said in record { put = ap (λ (s : Says). s.ok) f; refusal = ap (λ (s : Says). s.refusal) f; gives = given }
 
 -- a row leaves the counts 0

@@ -13,7 +13,7 @@ ghost use Rattle.netfile.specs.Steps.{EndsRead, on_line, PutRow};
 use crate::NET_BYTES;
 use crate::line::{SetRow, end_line, row_line};
 use net::putting::put_side;
-use net::{Net, Refusal, Refused, Returned, Side, fresh};
+use net::{Net, Refusal, Refused, Returned, fresh};
 use text::lines::{lines_of, split_line};
 
 // Reads a net file.
@@ -111,9 +111,7 @@ fn put_row(net: &mut Net, row: SetRow) -> Result<(), Refusal>
     requires activity { row.activity < activities }
     ensures { PutRow net.old (Ok row) result net.new }
 {
-    match row.side {
-        Side::Input => put_side(&mut net.inputs, net.start, row.activity, row.set)?,
-        Side::Output => put_side(&mut net.outputs, net.end, row.activity, row.set)?,
-    };
+    let empty = net.empty_at(row.side);
+    put_side(net.sides_mut(row.side), empty, row.activity, row.set)?;
     Ok(())
 }

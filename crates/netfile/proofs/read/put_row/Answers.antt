@@ -1,34 +1,20 @@
 -- `put_row` meets its contract: what is done to one kind of side is what put does to the net. Assumes nothing.
 use Rattle.std.proofs.lemmas.Result.{err_from_is_err_and}
-use Rattle.net.specs.declared.sides.Side.TheVariants.{Input, Output}
 use Rattle.net.proofs.OrderlyLaws.{orderly_sides}
 use Rattle.netfile.proofs.PutRowLaws.{row_put, row_refused}
 use Rattle.netfile.proofs.read.put_row.Goals as goal
 
 pub put_side-requires-clause-orderly : goal.put_side-requires-clause-orderly
-put_side-requires-clause-orderly c = orderly_sides c.args.net.now c.requires.orderly Input
+put_side-requires-clause-orderly c = rw (c.sides_mut.ensures.value, c.empty_at-empty.ensures) (orderly_sides c.args.net.now c.requires.orderly c.args.row.side)
 
-pub put_side-requires-in-Output-clause-orderly : goal.put_side-requires-in-Output-clause-orderly
-put_side-requires-in-Output-clause-orderly c = orderly_sides c.args.net.now c.requires.orderly Output
-
-pub returns-in_err-put_side-in-Input : goal.returns-in_err-put_side-in-Input
-returns-in_err-put_side-in-Input c =
+pub returns-in_err-put_side : goal.returns-in_err-put_side
+returns-in_err-put_side c =
     let s = c.put_side in
     let p = err_from_is_err_and c.from_residual.result c.from_residual.ensures.1 in
-    rw (p.1, p.2) (row_refused c.args.net.now c.args.row Input c.in-Input.is c.requires.orderly c.requires.uncounted c.requires.activity s.result s.new.sides s.ensures.done s.ensures.counts c.in_err-put_side-in-Input.field-0.0 c.in_err-put_side-in-Input.was)
+    rw (p.1, p.2)
+    (row_refused c.args.net.now c.args.row c.requires.orderly c.requires.uncounted c.requires.activity s.result s.new.sides (rw (c.sides_mut.ensures.value, c.empty_at-empty.ensures) at s.ensures.done) (rw c.sides_mut.ensures.value at s.ensures.counts) c.in_err-put_side.field-0.0 c.in_err-put_side.was)
 
-pub returns-in_err-put_side-in-Output : goal.returns-in_err-put_side-in-Output
-returns-in_err-put_side-in-Output c =
-    let s = c.put_side-in-Output in
-    let p = err_from_is_err_and c.from_residual-in_err-put_side-in-Output.result c.from_residual-in_err-put_side-in-Output.ensures.1 in
-    rw (p.1, p.2) (row_refused c.args.net.now c.args.row Output c.in-Output.is c.requires.orderly c.requires.uncounted c.requires.activity s.result s.new.sides s.ensures.done s.ensures.counts c.in_err-put_side-in-Output.field-0.0 c.in_err-put_side-in-Output.was)
-
-pub returns-in_ok-put_side-in-Input : goal.returns-in_ok-put_side-in-Input
-returns-in_ok-put_side-in-Input c =
+pub returns : goal.returns
+returns c =
     let s = c.put_side in
-    row_put c.args.net.now c.args.row Input c.in-Input.is c.requires.orderly c.requires.uncounted c.requires.activity s.result s.new.sides s.ensures.done s.ensures.counts c.in_ok-put_side-in-Input.field-0 c.in_ok-put_side-in-Input.was
-
-pub returns-in_ok-put_side-in-Output : goal.returns-in_ok-put_side-in-Output
-returns-in_ok-put_side-in-Output c =
-    let s = c.put_side-in-Output in
-    row_put c.args.net.now c.args.row Output c.in-Output.is c.requires.orderly c.requires.uncounted c.requires.activity s.result s.new.sides s.ensures.done s.ensures.counts c.in_ok-put_side-in-Output.field-0 c.in_ok-put_side-in-Output.was
+    row_put c.args.net.now c.args.row c.requires.orderly c.requires.uncounted c.requires.activity s.result s.new.sides (rw (c.sides_mut.ensures.value, c.empty_at-empty.ensures) at s.ensures.done) (rw c.sides_mut.ensures.value at s.ensures.counts) c.in_ok-put_side.field-0 c.in_ok-put_side.was
