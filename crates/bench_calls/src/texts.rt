@@ -19,7 +19,8 @@ pub fn net_in<R: Files + Eprint>(rt: &R, path: &[u8]) -> Net {
     netfile::read_net(&text[..n]).net
 }
 
-// Makes a call so often on a file's text.
+// Makes a call so often on a file's text. It is the loop of `nets::repeat` without a net: shared, the net would be kept in a closure
+// that changes it, and be read through it at each call that is timed.
 pub fn repeat<R: Files + Eprint, F: Fn(&[u8], u32) -> u64>(
     rt: &R,
     path: &[u8],

@@ -1,6 +1,7 @@
 // Files and standard streams as a program needs them. A file is read whole or not at all: a read that fails must not pass
 // for the file's end, since half a net may say "none" where the whole one has a route. What can't be opened, read or
-// written is said on standard error, with the system's reason.
+// written is said on standard error, with the system's reason. So what is answered is how much there is, or whether it was
+// written, and no `Result`: a caller has nothing left to do about it.
 //
 // No contract of std says what a file holds, so the contracts of the public functions give lengths only. What is read of a
 // reader whose bytes are known, and written to such a writer, is said in full by the functions that they call.

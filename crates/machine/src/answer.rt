@@ -14,6 +14,7 @@ pub enum Answer<'a> {
     Words(&'a [u32]),
     // The text register. Its bytes may be no text, so they are written behind this line.
     Shown(&'a [u8]),
+    // A replay's outcomes, the first with the sequence, which stands in the buffer that was lent.
     Found { trials: u64, sequence: &'a [u32] },
     Failed { trials: u64 },
     Spent { trials: u64 },

@@ -68,6 +68,6 @@ impl From<Refusal> for Refused {
 
 impl fmt::Display for Refused {
     fn fmt<W: fmt::Write>(&self, f: &mut fmt::Formatter<W>) -> fmt::Result {
-        write!(f, "refused {} {}", self.refusal as u32, self.place)
+        write!(f, "refused {} {}", self.refusal.number(), self.place)
     }
 }

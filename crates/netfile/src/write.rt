@@ -99,7 +99,7 @@ fn write_set<S: Sink>(out: &mut S, side: Side, a: u32, m: u32)
     out.bytes(b"\r\n");
 }
 
-// A side's word.
+// A side's word. It is the file's rule, and no conversion of `Side`.
 fn word(side: Side) -> &'static [u8]
     ensures { result.now ≡ side_word side }
 {

@@ -3,7 +3,8 @@
 //
 // These functions are called by the layers above and by nobody else. Their `requires` are those that a caller has at
 // hand: the activity is one, no count is so high that a byte couldn't hold one more, since a count is at most the number of
-// positions so far, and the total of counts is what the step before reported.
+// positions so far, and the total of counts is what the step before reported. They are clauses and no types: the words of a trace
+// or sequence may be any and are tested once, at the call, and a type of such words would be made anew of each.
 
 ghost use Rattle.std.specs.Prelude.{◌≡◌, true, List, ℕ, ◌≤◌, ◌<◌, ◌+◌, ◌-◌, ◌*◌, length};
 ghost use Rattle.obligations.specs.Limits.{activities, pairs};

@@ -51,7 +51,8 @@ fn run_command<'m>(
     }
 }
 
-// Runs one of the other commands: its first number is a register's, and the rest are words.
+// Runs one of the other commands: its first number is a register's, and the rest are words. Each command takes these three as they
+// are: some change the registers and some only read them, so that one struct of the three would not do for all.
 fn run_on_register<'m>(
     registers: &mut Registers,
     text: &Text,

@@ -32,7 +32,7 @@ pub fn fresh(registers: &mut Registers, r: Register, args: &[u32]) -> Answer<'st
     answered(made, |_| Answer::Done)
 }
 
-// put R SIDE A SET: put on register R.
+// put R SIDE A SET: put on register R. That 0 and 1 are sides is the scripts' rule, and no conversion of `Side`.
 pub fn put(registers: &mut Registers, r: Register, args: &[u32]) -> Answer<'static> {
     let (side, a, set) = match *args {
         [0, a, set] => (Side::Input, a, set),

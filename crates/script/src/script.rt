@@ -1,4 +1,5 @@
-// A script, of which what is left is run.
+// A script, of which what is left is run. That it only shrinks is a clause of each function that passes over a part: it compares
+// before and after, which no type can.
 
 ghost use Rattle.std.specs.Prelude.{◌≡◌, ◌≤◌, ◌<◌, MatchOption, length};
 
@@ -23,8 +24,8 @@ impl<'s> Script<'s> {
         Some(line)
     }
 
-    // The next n bytes, if an LF follows them. They are passed, with the LF, and also where none follows; where there are fewer,
-    // so are all that are left.
+    // The next n bytes, if an LF follows them. The n bytes are passed in any case, and the LF where there is one; where there are
+    // fewer, all that are left are passed.
     pub fn next_text(&mut self, n: usize) -> Option<&'s [u8]>
         ensures { length self.new.rest.now ≤ length self.old.rest.now }
     {

@@ -34,7 +34,7 @@ impl State {
     }
 }
 
-// The text register: the first `len` bytes.
+// The text register: the first `len` bytes. No `Vec`, since the programs use no heap.
 #[derive(Drop)]
 pub struct Text {
     bytes: [u8; TEXT_ROOM],

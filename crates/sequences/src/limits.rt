@@ -1,4 +1,5 @@
-// Refusals 3 and 4 of sequences and traces, for judge, learn and follow.
+// Refusals 3 and 4 of sequences and traces, for judge, learn and follow. That words are within the limits is a clause of what is
+// called then, `WithinLimits`, and no type: the words stay the caller's slice, which may be any and is tested here once.
 
 ghost use Rattle.std.specs.Prelude.{◌≡◌, ◌<◌, ◌/◌, IfOk, length};
 ghost use Rattle.obligations.specs.Sequence.{bindings};

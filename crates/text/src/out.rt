@@ -5,7 +5,8 @@ ghost use Rattle.text.specs.Decimal.{last_digits, print_number};
 
 use super::decimal::number_width;
 
-// `len` bytes of the buffer are written.
+// `len` bytes of the buffer are written. Where a whole text is written, an `Out` is made, written and asked for its length: a
+// function for the three would take a closure, of which each caller would have to say what it writes.
 #[derive(Drop)]
 pub struct Out<'a> {
     buf: &'a mut [u8],
