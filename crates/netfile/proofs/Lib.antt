@@ -3,7 +3,6 @@ pub mod RowLaws
 pub mod PutRowLaws
 pub mod FileLaws
 pub mod TextLaws
-pub mod SinkLaws
 pub mod NetTextLaws
 pub mod RowTextLaws
 pub mod LineReadLaws

@@ -6,4 +6,3 @@ pub mod Refusals
 pub mod Statements
 -- of the code alone
 pub mod Steps
-pub mod Sinks

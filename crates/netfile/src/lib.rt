@@ -5,7 +5,6 @@
 
 mod line;
 mod read;
-mod sink;
 mod write;
 
 pub use read::{read_net, refused_reading};

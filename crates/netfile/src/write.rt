@@ -8,10 +8,11 @@ ghost use Rattle.text.specs.Lines.{unlines};
 ghost use Rattle.net.specs.Orderly.{orderly};
 ghost use Rattle.netfile.specs.NetFile.{head_lines, side_word, set_lines, sets_lines, activity_lines, net_text, NetWritten};
 
-use crate::sink::{Sink, Width};
 use net::{Net, Refusal, Refused, Side, is_orderly};
 use obligations::ACTIVITIES;
+use text::members::write_members;
 use text::out::Out;
+use text::sink::{Sink, Width};
 
 // Writes an orderly net to the front of the buffer, and returns the text's length.
 pub fn write_net(net: Net, out: &mut [u8]) -> Result<u32, Refused>
@@ -95,7 +96,7 @@ fn write_set<S: Sink>(out: &mut S, side: Side, a: u32, m: u32)
     out.bytes(b",");
     out.number(u64::from(a));
     out.bytes(b",");
-    out.members(m);
+    write_members(out, m);
     out.bytes(b"\r\n");
 }
 

@@ -7,6 +7,7 @@ pub mod DecimalLaws
 pub mod IterLaws
 pub mod WriteLaws
 pub mod StoreLaws
+pub mod SinkLaws
 pub mod MemberListLaws
 pub mod MemberWriteLaws
 pub mod Theorems

@@ -1,6 +1,6 @@
 -- Laws for writing a member list: the lowest member first, then each of the others after a space, until none is left.
 -- Assumes nothing.
-use Rattle.std.proofs.Common.{ℕ, ◌+◌, ◌≡◌, ap, ◌∙◌, List, [], ◌∷◌, ◌++◌, length, length-append, map}
+use Rattle.std.proofs.Common.{ℕ, ◌≡◌, List, [], ◌∷◌, ◌++◌, map}
 use Rattle.obligations.specs.Sets.{members}
 use Rattle.text.specs.Fields.{space, led}
 use Rattle.text.specs.Decimal.{print_number}
@@ -17,6 +17,3 @@ print_none m e = rw e
 pub print_first : (m k : ℕ) (ks : List ℕ) → members m ≡ k ∷ ks → print_members m ≡ print_number k ++ spaced ks
 unfolding print_members
 print_first m k ks e = rw e
-
-pub length_first : (m k : ℕ) (ks : List ℕ) → members m ≡ k ∷ ks → length (print_members m) ≡ length (print_number k) + length (spaced ks)
-length_first m k ks e = ap length (print_first m k ks e) ∙ length-append (print_number k) (spaced ks)

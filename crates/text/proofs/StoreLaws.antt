@@ -4,7 +4,7 @@ use Rattle.std.proofs.Common.{ℕ, ◌+◌, ◌≡◌, refl, sym, ap, ◌∙◌,
 use Rattle.std.proofs.Math.Seq.{sets}
 use Rattle.text.specs.Writing.{Room, Appends}
 use Rattle.text.specs.declared.out.Out.{Out}
-use Rattle.text.proofs.WriteLaws.{sets-append, appends_length}
+use Rattle.text.specs.Sinks.{sets-append, appends_length}
 
 -- of a text that was to be appended to o₀, the rest is to be appended to o
 pub record Storing (o₀ : Out) (text : List ℕ) (o : Out) (rest : List ℕ) : Type 0 where

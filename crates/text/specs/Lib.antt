@@ -10,3 +10,4 @@ pub mod Statements
 pub mod Inner
 pub mod Reading
 pub mod Writing
+pub mod Sinks

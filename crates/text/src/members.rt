@@ -4,9 +4,10 @@ ghost use Rattle.std.specs.Prelude.{◌≡◌, ◌+◌, ◌≤◌, length};
 ghost use Rattle.text.specs.Members.{parse_members, print_members};
 ghost use Rattle.text.specs.Writing.{Room, Appends};
 
-use super::decimal::{number_width, read_number};
+use super::decimal::read_number;
 use super::fields::split;
 use super::out::Out;
+use super::sink::{Sink, Width};
 use obligations::ACTIVITIES;
 use obligations::sets::{members, with};
 
@@ -28,19 +29,29 @@ pub fn read_members(list: &[u8]) -> Option<u32>
     Some(set)
 }
 
+// Writes the member list of a set.
+pub fn write_members<S: Sink>(out: &mut S, set: u32)
+    requires { S.room out.old (print_members set) }
+    ensures { S.takes out.old (print_members set) out.new }
+{
+    let mut others = members(set);
+    let Some(first) = others.next() else {
+        return;
+    };
+    out.number(u64::from(first));
+    for k in others {
+        out.bytes(b" ");
+        out.number(u64::from(k));
+    }
+}
+
 // How many bytes the member list of a set takes.
 pub fn members_width(set: u32) -> usize
     ensures { result ≡ length (print_members set) }
 {
-    let mut others = members(set);
-    let Some(first) = others.next() else {
-        return 0;
-    };
-    let mut width = number_width(u64::from(first));
-    for k in others {
-        width += 1 + number_width(u64::from(k));
-    }
-    width
+    let mut width = Width(0);
+    write_members(&mut width, set);
+    width.0
 }
 
 impl<'a> Out<'a> {
@@ -49,14 +60,6 @@ impl<'a> Out<'a> {
         requires { Room self.old (print_members set) }
         ensures { Appends self.old (print_members set) self.new }
     {
-        let mut others = members(set);
-        let Some(first) = others.next() else {
-            return;
-        };
-        self.number(u64::from(first));
-        for k in others {
-            self.bytes(b" ");
-            self.number(u64::from(k));
-        }
+        write_members(self, set);
     }
 }

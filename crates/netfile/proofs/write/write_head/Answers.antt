@@ -5,7 +5,7 @@ use Rattle.text.specs.Lines.{unlines, cr, lf}
 use Rattle.text.specs.Fields.{comma}
 use Rattle.text.specs.Decimal.{print_number}
 use Rattle.netfile.specs.NetFile.{head_lines}
-use Rattle.netfile.proofs.SinkLaws.{left_start, left_room, left_more, left_end}
+use Rattle.text.proofs.SinkLaws.{left_start, left_room, left_more, left_end}
 use Rattle.netfile.proofs.TextLaws.{to_start, to_end, head_bytes}
 use Rattle.netfile.proofs.write.write_head.Goals as goal
 

@@ -6,7 +6,7 @@ use Rattle.text.specs.Lines.{unlines}
 use Rattle.net.specs.declared.sides.Side.TheVariants.{Input, Output}
 use Rattle.net.proofs.OrderlyLaws.{orderly_at_most}
 use Rattle.netfile.specs.NetFile.{sets_lines, side_lines, activity_lines}
-use Rattle.netfile.proofs.SinkLaws.{left_start, left_room, left_more, left_end}
+use Rattle.text.proofs.SinkLaws.{left_start, left_room, left_more, left_end}
 use Rattle.netfile.proofs.TextLaws.{activities-step, activities_none}
 use Rattle.netfile.proofs.write.write_rows.Goals as goal
 

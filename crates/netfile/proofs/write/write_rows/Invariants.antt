@@ -2,7 +2,7 @@ use Rattle.std.proofs.Common.{◌-◌}
 use Rattle.obligations.specs.Limits.{activities}
 use Rattle.text.specs.Lines.{unlines}
 use Rattle.netfile.specs.NetFile.{activity_lines}
-use Rattle.netfile.proofs.SinkLaws.{Left}
+use Rattle.text.proofs.SinkLaws.{Left}
 use Rattle.netfile.proofs.write.write_rows.Given as goal
 
 abbrev pub invariant-loop-a : goal.invariant-loop-a

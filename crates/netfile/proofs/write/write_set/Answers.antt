@@ -6,7 +6,7 @@ use Rattle.text.specs.Fields.{comma}
 use Rattle.text.specs.Decimal.{print_number}
 use Rattle.text.specs.Members.{print_members}
 use Rattle.netfile.specs.NetFile.{side_word, set_lines}
-use Rattle.netfile.proofs.SinkLaws.{left_start, left_room, left_more, left_end}
+use Rattle.text.proofs.SinkLaws.{left_start, left_room, left_more, left_end}
 use Rattle.netfile.proofs.TextLaws.{set_none, set_bytes}
 use Rattle.netfile.proofs.write.write_set.Goals as goal
 
@@ -50,8 +50,8 @@ bytes-requires-3 g c =
     let l3 = left_more k l2 (print_number a.a) ((comma ∷ []) ++ (print_members a.m ++ (cr ∷ lf ∷ []))) (ap print_number c.from.ensures) refl c.number.ensures in
     left_room k l3 (comma ∷ []) (print_members a.m ++ (cr ∷ lf ∷ [])) refl refl
 
-pub members-requires : goal.members-requires
-members-requires g c =
+pub write_members-requires : goal.write_members-requires
+write_members-requires g c =
     let a = c.args in
     let k = g.met.S.Sink.laws in
     let l0 = left_start k a.out.now (unlines (set_lines a.side a.a a.m)) (side_word a.side ++ ((comma ∷ []) ++ (print_number a.a ++ ((comma ∷ []) ++ (print_members a.m ++ (cr ∷ lf ∷ [])))))) c.requires (set_bytes a.side a.a a.m c.if-m-eq0.false) in
@@ -70,7 +70,7 @@ bytes-requires-4 g c =
     let l2 = left_more k l1 (comma ∷ []) (print_number a.a ++ ((comma ∷ []) ++ (print_members a.m ++ (cr ∷ lf ∷ [])))) refl refl c.bytes-2.ensures in
     let l3 = left_more k l2 (print_number a.a) ((comma ∷ []) ++ (print_members a.m ++ (cr ∷ lf ∷ []))) (ap print_number c.from.ensures) refl c.number.ensures in
     let l4 = left_more k l3 (comma ∷ []) (print_members a.m ++ (cr ∷ lf ∷ [])) refl refl c.bytes-3.ensures in
-    let l5 = left_more k l4 (print_members a.m) (cr ∷ lf ∷ []) refl refl c.members.ensures in
+    let l5 = left_more k l4 (print_members a.m) (cr ∷ lf ∷ []) refl refl c.write_members.ensures in
     left_room k l5 (cr ∷ lf ∷ []) [] refl refl
 
 pub returns : goal.returns
@@ -82,6 +82,6 @@ returns g c =
     let l2 = left_more k l1 (comma ∷ []) (print_number a.a ++ ((comma ∷ []) ++ (print_members a.m ++ (cr ∷ lf ∷ [])))) refl refl c.bytes-2.ensures in
     let l3 = left_more k l2 (print_number a.a) ((comma ∷ []) ++ (print_members a.m ++ (cr ∷ lf ∷ []))) (ap print_number c.from.ensures) refl c.number.ensures in
     let l4 = left_more k l3 (comma ∷ []) (print_members a.m ++ (cr ∷ lf ∷ [])) refl refl c.bytes-3.ensures in
-    let l5 = left_more k l4 (print_members a.m) (cr ∷ lf ∷ []) refl refl c.members.ensures in
+    let l5 = left_more k l4 (print_members a.m) (cr ∷ lf ∷ []) refl refl c.write_members.ensures in
     let l6 = left_more k l5 (cr ∷ lf ∷ []) [] refl (sym (append-nil _)) c.bytes-4.ensures in
     left_end k l6 refl

@@ -3,7 +3,7 @@ use Rattle.std.proofs.Common.{refl, drop, get_or, ◌+◌}
 use borrow.Author.Rules.{rules}
 use Rattle.text.specs.Lines.{unlines}
 use Rattle.netfile.specs.NetFile.{set_lines, sets_lines}
-use Rattle.netfile.proofs.SinkLaws.{left_start, left_room, left_more, left_end}
+use Rattle.text.proofs.SinkLaws.{left_start, left_room, left_more, left_end}
 use Rattle.netfile.proofs.TextLaws.{sets-step, sets_none}
 use Rattle.netfile.proofs.write.write_sets.Goals as goal
 

@@ -1,7 +1,7 @@
 use Rattle.std.proofs.Common.{drop}
 use Rattle.text.specs.Lines.{unlines}
 use Rattle.netfile.specs.NetFile.{sets_lines}
-use Rattle.netfile.proofs.SinkLaws.{Left}
+use Rattle.text.proofs.SinkLaws.{Left}
 use Rattle.netfile.proofs.write.write_sets.Given as goal
 
 abbrev pub invariant-loop-m : goal.invariant-loop-m

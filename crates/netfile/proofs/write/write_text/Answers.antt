@@ -4,7 +4,7 @@ use mathlib.Core.List.{append-nil}
 use Rattle.obligations.specs.Limits.{activities}
 use Rattle.text.specs.Lines.{unlines}
 use Rattle.netfile.specs.NetFile.{head_lines, activity_lines, net_text}
-use Rattle.netfile.proofs.SinkLaws.{left_start, left_room, left_more, left_end}
+use Rattle.text.proofs.SinkLaws.{left_start, left_room, left_more, left_end}
 use Rattle.netfile.proofs.TextLaws.{net_text_lem}
 use Rattle.netfile.proofs.write.write_text.Goals as goal
 

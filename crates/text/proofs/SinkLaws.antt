@@ -2,7 +2,7 @@
 -- Assumes nothing.
 use Rattle.std.proofs.Common.{ℕ, ◌≡◌, sym, ap, subst, ◌∙◌, List, [], ◌++◌, append_assoc}
 use mathlib.Core.List.{append-nil}
-use Rattle.netfile.specs.Sinks.{SinkLaws}
+use Rattle.text.specs.Sinks.{SinkLaws}
 
 -- of a text that s₀ was to take, s has the rest to take
 pub record Left {S : Type 0} (room : S → List ℕ → Type 0) (takes : S → List ℕ → S → Type 0) (s₀ : S) (text : List ℕ) (s : S) (rest : List ℕ) : Type 0 where

@@ -1,15 +1,13 @@
-// Where a net's text goes: into a buffer, or into a count of its bytes. So one writer says both how long the text is and what it
+// Where a text goes: into a buffer, or into a count of its bytes. So one writer says both how long the text is and what it
 // is.
 
 ghost use Rattle.std.specs.Prelude.{ℕ, List};
 ghost use Rattle.text.specs.Decimal.{print_number};
-ghost use Rattle.text.specs.Members.{print_members};
 ghost use Rattle.text.specs.Writing.{Room, Appends};
-ghost use Rattle.netfile.specs.Sinks.{SinkLaws, Countable, Counts, out_laws, width_laws};
+ghost use Rattle.text.specs.Sinks.{SinkLaws, Countable, Counts, out_laws, width_laws};
 
-use text::decimal::number_width;
-use text::members::members_width;
-use text::out::Out;
+use super::decimal::number_width;
+use super::out::Out;
 
 // What takes a text piece by piece.
 pub trait Sink {
@@ -27,10 +25,6 @@ pub trait Sink {
         requires { room self.old (print_number n) }
         ensures { takes self.old (print_number n) self.new };
 
-    fn members(&mut self, set: u32)
-        requires { room self.old (print_members set) }
-        ensures { takes self.old (print_members set) self.new };
-
     ghost laws: { SinkLaws room takes };
 }
 
@@ -45,10 +39,6 @@ impl<'a> Sink for Out<'a> {
 
     fn number(&mut self, n: u64) {
         self.number(n);
-    }
-
-    fn members(&mut self, set: u32) {
-        self.members(set);
     }
 
     ghost laws = { out_laws };
@@ -69,10 +59,6 @@ impl Sink for Width {
 
     fn number(&mut self, n: u64) {
         self.0 += number_width(n);
-    }
-
-    fn members(&mut self, set: u32) {
-        self.0 += members_width(set);
     }
 
     ghost laws = { width_laws };
