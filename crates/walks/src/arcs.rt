@@ -20,6 +20,8 @@ pub fn union_of(masks: &[u32]) -> u32
 }
 
 // For each activity the set of those that are named on its side.
+// By index, here and in `links`. Tried: by `array::from_fn` the proof didn't close, as it says nothing of what the closure still holds
+// at a later turn.
 pub fn named_rows(sides: &Sides) -> Rows
     requires { SidesFit sides.now }
     ensures { result ≡ named_rows sides.now.masks sides.now.lengths }
