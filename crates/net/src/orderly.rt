@@ -8,7 +8,8 @@ ghost use Rattle.net.specs.Orderly.{block_ok, sides_ok, counts_ok, kind_ok, side
 use crate::{Net, SETS, Sides, lists};
 use obligations::ACTIVITIES;
 
-// Whether a net record is orderly.
+// Whether a net record is orderly. Each call asks this of its nets, whose words may be any. What it calls then has it as a clause
+// and not in a type: such a net would be a copy, or a loan beside the one that is changed.
 pub fn is_orderly(net: &Net) -> bool
     ensures { result ≡ orderly net.now }
 {
