@@ -19,8 +19,8 @@ pub fn net_in<R: Files + Eprint>(rt: &R, path: &[u8]) -> Net {
     netfile::read_net(&text[..n]).net
 }
 
-// Makes a call so often on a file's text. It is the loop of `nets::repeat` without a net: shared, the net would be kept in a closure
-// that changes it, and be read through it at each call that is timed.
+// Makes a call so often on a file's text. `nets::repeat` is the same loop with a net that each call leaves to the next. One function
+// for both would have that net in a closure, and what is timed would be reached through it.
 pub fn repeat<R: Files + Eprint, F: Fn(&[u8], u32) -> u64>(
     rt: &R,
     path: &[u8],

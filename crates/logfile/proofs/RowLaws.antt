@@ -1,14 +1,16 @@
 -- Laws of one row's line: its two fields, and what each test of a number decides. Assumes nothing.
 use Prim.Native.Nat.{ℕ, ◌+◌, ◌≤◌, ◌<◌}
-use mathlib.Core.Path.{◌≡◌, refl, ◌∙◌}
-use mathlib.Core.Bool.{Bool, true, false, ◌&&◌, and-false, cond}
+use mathlib.Core.Path.{◌≡◌, refl, sym, ◌∙◌}
+use mathlib.Core.Bool.{Bool, true, false, ◌&&◌, and-false, cond, not}
 use mathlib.Core.List.{List, [], ◌∷◌}
 use native.Mathlib.Omega.{arith}
-use borrow.Author.Tests.{le-leb, lt-leb, le-ltb, lt-ltb}
-use lib.Dec.{leb}
+use borrow.Author.Tests.{le-leb, lt-leb, le-ltb, lt-ltb, eq-eqb, ne_eqb}
+use lib.Dec.{leb, eqb, ltb}
+use native.Mathlib.Decide.{ℕ_discrete as dec_eq}
 use lib.ListN.{length}
 use Rattle.std.specs.Prelude.{Option, Some, None, Result, Err}
-use Rattle.std.specs.Option.{ok_or}
+use Rattle.std.specs.Bool.{then_some}
+use Rattle.std.specs.Option.{MatchOption, ok_or}
 use Rattle.net.specs.declared.refusal.Refused.{Refused}
 use Rattle.obligations.specs.Limits.{positions}
 use Rattle.net.specs.Refusals.{outside_limits, line_form, number_form}
@@ -54,18 +56,18 @@ sessions_not f = go (is_sessions f)
     go true q = cc
     go false q = refl
 
-module _ (f : List ℕ) where
-  pub sessions_no_number : parse_number most_sessions f ≡ None → None ≡ parse_sessions f
-  unfolding parse_sessions is_sessions
-  sessions_no_number q = rw (number-refused most_sessions f q)
-
-  pub sessions_zero : (v : ℕ) → parse_number most_sessions f ≡ Some v → v ≡ 0 → None ≡ parse_sessions f
-  unfolding parse_sessions is_sessions
-  sessions_zero v q z = let w = number-value most_sessions f v q in rw (w.0, w.1, le-ltb 0 v (omega arith))
-
-  pub sessions_some : (v : ℕ) → parse_number most_sessions f ≡ Some v → (v ≡ 0 → ⊥) → Some v ≡ parse_sessions f
-  unfolding parse_sessions is_sessions
-  sessions_some v q z = let w = number-value most_sessions f v q in rw (w.0, w.1, lt-ltb 0 v (omega arith))
+-- the number that a field says, if the test on it that answers so lets it through
+pub sessions_kept : (f : List ℕ) (Answers : ℕ → Bool → Type 0) → ((v : ℕ) (b : Bool) → Answers v b → b ≡ not (eqb v 0))
+    → (o r : Option ℕ) → o ≡ parse_number most_sessions f → MatchOption o (r ≡ None) (λ v. (b : Bool) × Answers v b × (r ≡ then_some b v)) → r ≡ parse_sessions f
+unfolding parse_sessions is_sessions
+sessions_kept f Answers says None r q k = rw (k, number-refused most_sessions f (sym q)) refl
+sessions_kept f Answers says (Some v) r q k =
+    let w = number-value most_sessions f v (sym q) in
+    let t : r ≡ then_some (not (eqb v 0)) v = rw (← says v k.0 k.1) k.2 in
+    elim (dec_eq v 0) [
+      | yes z ↦ t ∙ rw (w.0, w.1, eq-eqb v 0 z, le-ltb 0 v (omega (arith, z))) refl
+      | no d ↦ t ∙ rw (w.0, w.1, ne_eqb v 0 d, lt-ltb 0 v (omega (arith, d))) refl
+    ]
 
 -- ---- what each test of a row decides
 

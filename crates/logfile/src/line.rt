@@ -25,6 +25,7 @@ pub fn row_line(number: u32, line: &[u8]) -> Result<(Row, &[u8]), Refused>
     }
     let row = Row {
         sessions,
+        // At most 96.
         length: length as u32,
     };
     Ok((row, trace))
@@ -45,11 +46,7 @@ fn two_fields(line: &[u8]) -> Option<(&[u8], &[u8])>
 fn read_sessions(field: &[u8]) -> Option<u32>
     ensures { result ≡ parse_sessions field.now }
 {
-    let sessions = read_number(field, MOST_SESSIONS)?;
-    if sessions == 0 {
-        return None;
-    }
-    Some(sessions)
+    read_number(field, MOST_SESSIONS).filter(|sessions| *sessions != 0)
 }
 
 // How many entries a trace has, if all are activities: one more than its spaces. Those past the last that a trace may have are
@@ -64,7 +61,8 @@ fn count_entries(trace: &[u8]) -> Option<usize>
     all_read.then_some(count_byte(trace, b' ') + 1)
 }
 
-// Writes the entries of a trace, which were found to be activities, to the buffer's front.
+// Writes the entries of a trace, which were found to be activities, to the buffer's front. By index, tried: of what is written through
+// an adapter of `iter_mut` a proof learns nothing.
 pub fn fill_trace(trace: &[u8], out: &mut [u32])
     requires { IsTrace trace.now (length out.old) }
     ensures { TraceFilled trace.now out.old out.new }

@@ -1,4 +1,4 @@
-// What a line answers, and how that is written.
+// What a command answers, and how that is written.
 
 use net::Refused;
 use std::fmt;
@@ -6,15 +6,13 @@ use std::fmt;
 // An answer, with the words or the bytes that it gives.
 #[derive(Clone, Copy)]
 pub enum Answer<'a> {
-    // The line is no command.
-    Bad,
     // The command was done and gives no number.
     Done,
     Value(u64),
     Words(&'a [u32]),
     // The text register. Its bytes may be no text, so they are written behind this line.
     Shown(&'a [u8]),
-    // A replay's outcomes, the first with the sequence, which stands in the buffer that was lent.
+    // A replay's outcomes, and no `Outcome`, since a sequence that was found stands in the buffer that was lent and is written too.
     Found { trials: u64, sequence: &'a [u32] },
     Failed { trials: u64 },
     Spent { trials: u64 },
@@ -55,7 +53,6 @@ impl<'a> From<Answer<'a>> for Reply<'a> {
 impl fmt::Display for Answer<'_> {
     fn fmt<W: fmt::Write>(&self, f: &mut fmt::Formatter<W>) -> fmt::Result {
         match *self {
-            Answer::Bad => write!(f, "?"),
             Answer::Done => write!(f, "ok"),
             Answer::Value(value) => write!(f, "ok {value}"),
             Answer::Words(words) => {

@@ -28,8 +28,16 @@ impl<'a, R: Print + Eprint> Output<'a, R> {
         }
     }
 
+    // Adds what a line is replied, which is `?` where it is no command.
+    pub fn line(&mut self, replied: Option<Reply>) {
+        match replied {
+            Some(reply) => self.reply(reply),
+            None => self.bytes(b"?\n"),
+        }
+    }
+
     // Adds a reply's line, and the bytes that it shows with the end of a line behind them.
-    pub fn reply(&mut self, reply: Reply) {
+    fn reply(&mut self, reply: Reply) {
         // Adding never fails.
         let _ = writeln!(self, "{reply}");
         if let Answer::Shown(text) = reply.answer {

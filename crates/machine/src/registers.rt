@@ -23,15 +23,19 @@ pub struct Register {
     ghost within: { index < REGISTERS },
 }
 
-impl Register {
-    // The register of a number, if there is one.
-    pub fn new(number: u64) -> Option<Register> {
-        if REGISTERS as u64 <= number {
-            return None;
+// No register has this number.
+#[derive(Clone, Copy)]
+pub struct NoRegister(pub u64);
+
+impl TryFrom<u64> for Register {
+    type Error = NoRegister;
+
+    fn try_from(number: u64) -> Result<Register, NoRegister> {
+        let index = number as usize;
+        if REGISTERS <= index {
+            return Err(NoRegister(number));
         }
-        Some(Register {
-            index: number as usize,
-        })
+        Ok(Register { index })
     }
 }
 
@@ -63,32 +67,33 @@ impl Registers {
     }
 
     // poke R I V: word I of register R becomes V.
-    pub fn poke(&mut self, r: Register, args: &[u32]) -> Answer<'static> {
+    pub fn poke(&mut self, r: Register, args: &[u32]) -> Option<Answer<'static>> {
         let [i, v] = *args else {
-            return Answer::Bad;
+            return None;
         };
         let i = i as usize;
         if WORDS <= i {
-            return Answer::Bad;
+            return None;
         }
         *word_of(&mut self.nets[r.index], i) = v;
-        Answer::Done
+        Some(Answer::Done)
     }
 
     // peek R I N: N words of register R from I on. They are left as they are: `word_of` finds a word for poke too.
-    pub fn peek<'w>(&mut self, r: Register, args: &[u32], buf: &'w mut [u32]) -> Answer<'w> {
+    pub fn peek<'w>(&mut self, r: Register, args: &[u32], buf: &'w mut [u32]) -> Option<Answer<'w>> {
         let [i, n] = *args else {
-            return Answer::Bad;
+            return None;
         };
         let i = i as usize;
         let n = n as usize;
-        if WORDS < i + n || buf.len() < n {
-            return Answer::Bad;
+        if WORDS < i + n {
+            return None;
         }
-        for (k, word) in buf[..n].iter_mut().enumerate() {
+        let words = buf.get_mut(..n)?;
+        for (k, word) in words.iter_mut().enumerate() {
             *word = *word_of(&mut self.nets[r.index], i + k);
         }
-        Answer::Words(&buf[..n])
+        Some(Answer::Words(words))
     }
 }
 

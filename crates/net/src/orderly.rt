@@ -8,8 +8,9 @@ ghost use Rattle.net.specs.Orderly.{block_ok, sides_ok, counts_ok, kind_ok, side
 use crate::{Net, SETS, Sides, lists};
 use obligations::ACTIVITIES;
 
-// Whether a net record is orderly. Each call asks this of its nets, whose words may be any. What it calls then has it as a clause
-// and not in a type: such a net would be a copy, or a loan beside the one that is changed.
+// Whether a net record is orderly. Each call asks this of its nets, since their words may be any. The functions behind it have it as a
+// clause and not in a type. Where the net is changed, a type would be a copy of the net or a loan of it that stands in the way. Where
+// it is only read, a type would carry one fact through two or three calls, and hide from a reader of their contracts which it is.
 pub fn is_orderly(net: &Net) -> bool
     ensures { result ≡ orderly net.now }
 {

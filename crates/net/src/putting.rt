@@ -1,7 +1,8 @@
 // Put: one set added to one side.
 //
 // `OrderlySides` and `a < activities` are asked in each contract and aren't types: the words of a net that a caller gives may be any
-// and are tested once, at the call; a type of tested sides would have to be made anew of each lent net.
+// and are tested once, at the call; a type of tested sides would have to be made anew of each lent net. So the sides, the activity
+// whose side is empty, the activity and its set go side by side too: a struct of the four would be such a type, made for one put.
 
 ghost use Rattle.std.specs.Prelude.{◌≡◌, ◌&&◌, ◌+◌, ◌*◌, ◌-◌, ◌<◌, ◌≤◌, ◌∷◌, ltb, eqb, length, get_or, take, drop};
 ghost use Rattle.obligations.specs.Limits.{activities};
@@ -15,7 +16,8 @@ use crate::orderly::is_orderly;
 use crate::{Net, Refusal, Refused, Returned, SETS, Side, Sides, lists};
 use obligations::ACTIVITIES;
 
-// Where a put on one side found its set's place, among those of this kind of side, and whether the set is new there.
+// Where a put on one side found its set's place, among those of this kind of side, and whether the set is new there. Both are known
+// of each put that isn't refused, so this is no `Option`.
 #[derive(Clone, Copy)]
 pub struct Placed {
     pub at: usize,

@@ -11,9 +11,9 @@ pub enum Side {
 
 // All sides of one kind. The sets of activity a's side are the first lengths[a] masks from place 16 * a on. At the same places of
 // counts it is counted how often learned sequences have used each set.
-// Fixed arrays side by side, and no list of lists: so a net is one piece of memory of known size, and what isn't used is 0, so that
-// two nets are equal exactly if they are so word by word. A caller's words may be any, so that the lengths fit is no invariant but
-// a clause, `SidesFit`, of what is called where it was tested.
+// Fixed arrays side by side, which are those that paper 01 names, and no list or array of sides: so a net is one piece of memory of
+// known size and known order, and what isn't used is 0, so that two nets are equal exactly if they are so word by word. A caller's
+// words may be any, so that the lengths fit is no invariant but a clause, `SidesFit`, of what is called where it was tested.
 #[derive(Clone, Copy, PartialEq, Eq)]
 pub struct Sides {
     pub masks: [u32; PLACES],

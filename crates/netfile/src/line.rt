@@ -59,7 +59,8 @@ fn three_fields(line: &[u8]) -> Result<(&[u8], &[u8], &[u8]), Refusal>
     }
 }
 
-// The side that a word says. Two tests and no `match`, tried: of its default a proof has a case for each byte that may differ.
+// The side that a word says. Two tests and no `match`. Tried: for the arm of all other words a proof has a case for each byte in which
+// a word may differ.
 fn side_of(word: &[u8]) -> Result<Side, Refusal>
     ensures { result ≡ read_side word.now }
 {

@@ -14,7 +14,7 @@ use text::members::write_members;
 use text::out::Out;
 use text::sink::{Sink, Width};
 
-// Writes an orderly net to the front of the buffer, and returns the text's length.
+// Writes an orderly net to the front of the buffer, and returns the text's length, which has 32 bits: no net's text is longer.
 pub fn write_net(net: Net, out: &mut [u8]) -> Result<u32, Refused>
     ensures { NetWritten net out.old result out.new }
 {

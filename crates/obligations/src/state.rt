@@ -2,9 +2,10 @@
 // stand together, at q * 32 + p. A caller makes one state, and the steps change it in place.
 //
 // These functions are called by the layers above and by nobody else. Their `requires` are those that a caller has at
-// hand: the activity is one, no count is so high that a byte couldn't hold one more, since a count is at most the number of
-// positions so far, and the total of counts is what the step before reported. They are clauses and no types: the words of a trace
-// or sequence may be any and are tested once, at the call, and a type of such words would be made anew of each.
+// hand: the activity is one, no count is so high that a byte couldn't hold one more (`State most_due`), since a count is at most the
+// number of positions so far, and the total of counts is what the step before reported. They are clauses and no types. The words of
+// a trace or sequence may be any and are tested once, at the call, and a type of such words would be made anew of each. That counts
+// have room for one more is no invariant of a state, since an `add` may leave one that hasn't.
 
 ghost use Rattle.std.specs.Prelude.{◌≡◌, true, List, ℕ, ◌≤◌, ◌<◌, ◌+◌, ◌-◌, ◌*◌, length};
 ghost use Rattle.obligations.specs.Limits.{activities, pairs};

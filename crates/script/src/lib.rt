@@ -14,8 +14,7 @@ mod state;
 mod table_calls;
 
 use files::{print, read_input};
-use line::run_line;
-use machine::answer::Answer;
+use line::{is_comment, run_line};
 use machine::buffers::room;
 use machine::output::Output;
 use script::Script;
@@ -44,12 +43,12 @@ fn run_lines<R: Print + Eprint>(rt: &R, mut script: Script) {
     let mut state = State::new();
     let mut output = Output::new(rt);
     while let Some(line) = script.next_line() {
-        if let Some(reply) = run_line(&mut state, line, &mut script) {
-            output.reply(reply);
+        if !is_comment(line) {
+            output.line(run_line(&mut state, line, &mut script));
         }
     }
     if !script.is_at_end() && !script.is_at_comment() {
-        output.reply(Answer::Bad.into());
+        output.line(None);
     }
     output.flush();
 }

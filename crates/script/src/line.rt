@@ -10,20 +10,20 @@ use machine::numbers::{NUMBERS, read_numbers, words_from};
 use machine::registers::{Register, Registers};
 use text::fields::split;
 
-// Runs a line, unless it is a comment. One with a field that is no number is no command.
+// Whether a line is a comment, which isn't run.
+pub fn is_comment(line: &[u8]) -> bool {
+    line.starts_with(b"#")
+}
+
+// Runs a line, if it is a command: one with a field that is no number is none.
 pub fn run_line<'m>(state: &'m mut State, line: &[u8], script: &mut Script) -> Option<Reply<'m>>
     ensures { length script.new.rest.now ≤ length script.old.rest.now }
 {
-    if line.starts_with(b"#") {
-        return None;
-    }
     let mut fields = split(line, b' ');
     let word = fields.next()?;
     let mut buf = [0u64; NUMBERS];
-    match read_numbers(fields, &mut buf) {
-        Some(numbers) => Some(run_command(state, word, numbers, script)),
-        None => Some(Answer::Bad.into()),
-    }
+    let numbers = read_numbers(fields, &mut buf)?;
+    run_command(state, word, numbers, script)
 }
 
 // Runs the command that a word names.
@@ -32,7 +32,7 @@ fn run_command<'m>(
     word: &[u8],
     numbers: &[u64],
     script: &mut Script,
-) -> Reply<'m>
+) -> Option<Reply<'m>>
     ensures { length script.new.rest.now ≤ length script.old.rest.now }
 {
     let State {
@@ -42,34 +42,30 @@ fn run_command<'m>(
         bytes,
     } = state;
     match word {
-        b"text" => table_calls::text(text, numbers, script).into(),
-        b"show" => table_calls::show(text, numbers).into(),
+        b"text" => Some(table_calls::text(text, numbers, script)?.into()),
+        b"show" => Some(table_calls::show(text, numbers)?.into()),
         b"readrow" => table_calls::readrow(text, numbers, words),
         b"writenet" => table_calls::writenet(registers, numbers, text, bytes),
         b"replay" => sequence_calls::replay(registers, numbers, words),
-        _ => run_on_register(registers, text, words, word, numbers).into(),
+        _ => Some(run_on_register(registers, text, words, word, numbers)?.into()),
     }
 }
 
-// Runs one of the other commands: its first number is a register's, and the rest are words. Each command takes these three as they
-// are: some change the registers and some only read them, so that one struct of the three would not do for all.
+// Runs one of the other commands: its first number is a register's, and the rest are words. Most take the registers, the register and
+// the words as they are: some change the registers and some only read them, so that one struct of the three would not do for all.
 fn run_on_register<'m>(
     registers: &mut Registers,
     text: &Text,
     words: &'m mut [u32],
     word: &[u8],
     numbers: &[u64],
-) -> Answer<'m> {
+) -> Option<Answer<'m>> {
     let [first, rest @ ..] = numbers else {
-        return Answer::Bad;
+        return None;
     };
-    let Some(r) = Register::new(*first) else {
-        return Answer::Bad;
-    };
+    let r = Register::try_from(*first).ok()?;
     let mut buf = [0u32; NUMBERS];
-    let Some(args) = words_from(rest, &mut buf) else {
-        return Answer::Bad;
-    };
+    let args = words_from(rest, &mut buf)?;
     match word {
         b"poke" => registers.poke(r, args),
         b"peek" => registers.peek(r, args, words),
@@ -79,11 +75,11 @@ fn run_on_register<'m>(
         b"put" => net_calls::put(registers, r, args),
         b"contained" => net_calls::contained(registers, r, args),
         b"check" => net_calls::check(registers, r, args),
-        b"judge" => sequence_calls::judge(registers, r, args),
-        b"peak" => sequence_calls::peak(registers, r, args),
-        b"learn" => sequence_calls::learn(registers, r, args),
-        b"follow" => sequence_calls::follow(registers, r, args),
+        b"judge" => Some(sequence_calls::judge(registers, r, args)),
+        b"peak" => Some(sequence_calls::peak(registers, r, args)),
+        b"learn" => Some(sequence_calls::learn(registers, r, args)),
+        b"follow" => Some(sequence_calls::follow(registers, r, args)),
         b"readnet" => table_calls::readnet(registers, r, args, text),
-        _ => Answer::Bad,
+        _ => None,
     }
 }

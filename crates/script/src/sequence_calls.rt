@@ -32,25 +32,29 @@ pub fn follow(registers: &mut Registers, r: Register, trace: &[u32]) -> Answer<'
 }
 
 // replay R BUDGET N T T ..: replays the trace with a buffer of N words.
-pub fn replay<'w>(registers: &Registers, numbers: &[u64], words: &'w mut [u32]) -> Reply<'w> {
+pub fn replay<'w>(
+    registers: &Registers,
+    numbers: &[u64],
+    words: &'w mut [u32],
+) -> Option<Reply<'w>> {
     let [r, budget, room, rest @ ..] = numbers else {
-        return Answer::Bad.into();
+        return None;
     };
-    let Some(r) = Register::new(*r) else {
-        return Answer::Bad.into();
-    };
-    let Some(lent) = words.get_mut(..*room as usize) else {
-        return Answer::Bad.into();
-    };
+    let r = Register::try_from(*r).ok()?;
+    let lent = words.get_mut(..*room as usize)?;
     let mut buf = [0u32; NUMBERS];
-    match words_from(rest, &mut buf) {
-        Some(trace) => replay_with(registers.get(r), trace, *budget, lent),
-        None => Answer::Bad.into(),
-    }
+    let trace = words_from(rest, &mut buf)?;
+    replay_with(registers.get(r), trace, *budget, lent)
 }
 
-// Replays a trace with this buffer. If a sequence is found it has three words for each of the trace's positions.
-fn replay_with<'w>(net: &Net, trace: &[u32], budget: u64, lent: &'w mut [u32]) -> Reply<'w> {
+// Replays a trace with this buffer. If a sequence is found it has three words for each of the trace's positions. None has more words
+// than the buffer; one that had would not be written as if it were right.
+fn replay_with<'w>(
+    net: &Net,
+    trace: &[u32],
+    budget: u64,
+    lent: &'w mut [u32],
+) -> Option<Reply<'w>> {
     fill(lent);
     let replayed = search::replay(*net, trace, budget, lent);
     let written = match replayed {
@@ -58,14 +62,11 @@ fn replay_with<'w>(net: &Net, trace: &[u32], budget: u64, lent: &'w mut [u32]) -
         _ => 0,
     };
     let changed = !is_untouched(lent, written);
-    // No sequence has more words than the buffer; one that had would not be written as if it were right.
-    let Some(sequence) = lent.get(..written) else {
-        return Answer::Bad.into();
-    };
-    Reply {
+    let sequence = lent.get(..written)?;
+    Some(Reply {
         answer: answered(replayed, |outcome| replay_answer(outcome, sequence)),
         changed,
-    }
+    })
 }
 
 fn replay_answer(outcome: Outcome, sequence: &[u32]) -> Answer<'_> {

@@ -54,14 +54,10 @@ impl Text {
         &self.bytes[..self.len]
     }
 
-    // The register becomes these bytes, if it holds as many. Answers whether it does.
-    pub fn set(&mut self, bytes: &[u8]) -> bool {
-        if TEXT_ROOM < bytes.len() {
-            return false;
-        }
-        let len = bytes.len();
-        self.bytes[0..len].copy_from_slice(bytes);
-        self.len = len;
-        true
+    // The register becomes these bytes, if it holds as many.
+    pub fn set(&mut self, bytes: &[u8]) -> Option<()> {
+        self.bytes.get_mut(..bytes.len())?.copy_from_slice(bytes);
+        self.len = bytes.len();
+        Some(())
     }
 }

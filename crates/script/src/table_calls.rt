@@ -15,12 +15,12 @@ pub fn readnet(
     r: Register,
     args: &[u32],
     text: &Text,
-) -> Answer<'static> {
+) -> Option<Answer<'static>> {
     if !args.is_empty() {
-        return Answer::Bad;
+        return None;
     }
     let read = registers.keep(r, netfile::read_net(text.as_slice()));
-    answered(read, |_| Answer::Done)
+    Some(answered(read, |_| Answer::Done))
 }
 
 // writenet R N: writes R into a buffer of N bytes; if that isn't refused the text register becomes what was written.
@@ -29,58 +29,50 @@ pub fn writenet(
     numbers: &[u64],
     text: &mut Text,
     bytes: &mut [u8],
-) -> Reply<'static> {
+) -> Option<Reply<'static>> {
     let [r, room] = *numbers else {
-        return Answer::Bad.into();
+        return None;
     };
-    let Some(r) = Register::new(r) else {
-        return Answer::Bad.into();
-    };
-    let Some(lent) = bytes.get_mut(..room as usize) else {
-        return Answer::Bad.into();
-    };
+    let r = Register::try_from(r).ok()?;
+    let lent = bytes.get_mut(..room as usize)?;
     fill(lent);
     let written = netfile::write_net(*registers.get(r), lent);
     let length = written.map_or(0, |n| n as usize);
-    if let (Ok(_), Some(front)) = (written, lent.get(..length)) {
-        text.set(front);
+    if written.is_ok() {
+        text.set(lent.get(..length)?)?;
     }
-    Reply {
+    Some(Reply {
         answer: answered(written, |n| Answer::Value(u64::from(n))),
         changed: !is_untouched(lent, length),
-    }
+    })
 }
 
 // text N: the text register becomes the N bytes that follow, behind which an LF must stand. Bytes that it can't take are passed
 // over all the same, as they are no lines.
-pub fn text(text: &mut Text, numbers: &[u64], script: &mut Script) -> Answer<'static>
+pub fn text(text: &mut Text, numbers: &[u64], script: &mut Script) -> Option<Answer<'static>>
     ensures { length script.new.rest.now ≤ length script.old.rest.now }
 {
     let [n] = *numbers else {
-        return Answer::Bad;
+        return None;
     };
-    match script.next_text(n as usize) {
-        Some(bytes) if text.set(bytes) => Answer::Done,
-        _ => Answer::Bad,
-    }
+    text.set(script.next_text(n as usize)?)?;
+    Some(Answer::Done)
 }
 
 // show: the text register.
-pub fn show<'t>(text: &'t Text, numbers: &[u64]) -> Answer<'t> {
-    if !numbers.is_empty() {
-        return Answer::Bad;
-    }
-    Answer::Shown(text.as_slice())
+pub fn show<'t>(text: &'t Text, numbers: &[u64]) -> Option<Answer<'t>> {
+    numbers
+        .is_empty()
+        .then_some(Answer::Shown(text.as_slice()))
 }
 
-// readrow ROW N: reads row ROW of the text as a log, with a buffer of N words.
-pub fn readrow<'w>(text: &Text, numbers: &[u64], words: &'w mut [u32]) -> Reply<'w> {
+// readrow ROW N: reads row ROW of the text as a log, with a buffer of N words. No trace has more words than the buffer; one that had
+// would not be written as if it were right.
+pub fn readrow<'w>(text: &Text, numbers: &[u64], words: &'w mut [u32]) -> Option<Reply<'w>> {
     let [row, room] = *numbers else {
-        return Answer::Bad.into();
+        return None;
     };
-    let Some(lent) = words.get_mut(..room as usize) else {
-        return Answer::Bad.into();
-    };
+    let lent = words.get_mut(..room as usize)?;
     fill(lent);
     let read = logfile::read_row(text.as_slice(), row, lent);
     let length = match read {
@@ -88,14 +80,11 @@ pub fn readrow<'w>(text: &Text, numbers: &[u64], words: &'w mut [u32]) -> Reply<
         _ => 0,
     };
     let changed = !is_untouched(lent, length);
-    // No trace has more words than the buffer; one that had would not be written as if it were right.
-    let Some(trace) = lent.get(..length) else {
-        return Answer::Bad.into();
-    };
-    Reply {
+    let trace = lent.get(..length)?;
+    Some(Reply {
         answer: answered(read, |row| row_answer(row, trace)),
         changed,
-    }
+    })
 }
 
 fn row_answer(row: Option<Row>, trace: &[u32]) -> Answer<'_> {

@@ -48,6 +48,7 @@ impl Search<'_> {
         let width = self.net.outputs.sets(a).len() as u64;
         let mut rest = self.net.inputs.sets(a);
         let mut count = trials;
+        // No index is counted: what is walked is what is left of the sets, and a turn passes over as many as aren't possible.
         loop {
             let (passed, left) = rest.split_at(next_possible(due, a, rest));
             let pairs = passed.len() as u64 * width;

@@ -9,7 +9,7 @@ use native.Mathlib.Decide.{ℕ_discrete as dec_eq}
 use borrow.Author.Tests.{eq-eqb, ne_eqb}
 use lib.Dec.{eqb}
 use lib.ListN.{length, drop}
-use Rattle.std.proofs.Common.{Some, None}
+use Rattle.std.proofs.Common.{Some, None, refl}
 use Rattle.obligations.specs.Tests.{position_of}
 use Rattle.obligations.specs.Trace.{shaped}
 use Rattle.obligations.specs.Sequence.{at}
@@ -62,18 +62,15 @@ module _ (s : List Binding) (i : ℕ) (rest : List Binding) (r : Agreeing s i re
       pub input_wrong : beq (eqb b.input 0) (eqb position 1) ≡ false → position_of (first_wrongly_empty s) ≡ Some position
       input_wrong f = rw p (wrong_here (rw (test, rw first_same at f)))
 
-      -- the code tells the last position by the number of words
-      module _ (size : ℕ) (w : size ≡ 3 * length s) where
-        last_same : eqb (3 * position) size ≡ eqb (i + 1) (length s)
-        last_same = elim (dec_eq (i + 1) (length s)) [
-          | yes q ↦ rw (eq-eqb (3 * position) size (omega (arith, p, q, w)), eq-eqb (i + 1) (length s) q)
-          | no d ↦ rw (ne_eqb (3 * position) size (λ q. d (omega (arith, p, q, w))), ne_eqb (i + 1) (length s) d)
-        ]
+      -- the code tells the last position by how many there are
+      module _ (n : ℕ) (w : n ≡ length s) where
+        last_same : eqb position n ≡ eqb (i + 1) (length s)
+        last_same = rw (p, w) refl
 
-        pub output_wrong : beq (eqb b.output 0) (eqb (3 * position) size) ≡ false → position_of (first_wrongly_empty s) ≡ Some position
+        pub output_wrong : beq (eqb b.output 0) (eqb position n) ≡ false → position_of (first_wrongly_empty s) ≡ Some position
         output_wrong f = rw p (wrong_here (test ∙ simp (rw last_same at f, and-false)))
 
-        pub agreeing_next : beq (eqb b.input 0) (eqb position 1) ≡ true → beq (eqb b.output 0) (eqb (3 * position) size) ≡ true → Agreeing s (i + 1) rest'
+        pub agreeing_next : beq (eqb b.input 0) (eqb position 1) ≡ true → beq (eqb b.output 0) (eqb position n) ≡ true → Agreeing s (i + 1) rest'
         agreeing_next x y = record {
           left = (drop_head s i b rest' b (r.left ∙ e)).2;
           agree = pass_more (empty_agree s) i r.agree (test ∙ and_both (rw first_same at x) (rw last_same at y));

@@ -49,7 +49,8 @@ fn may_follow(net: &Net, trace: &[u32]) -> Result<(), Refused>
     Ok(())
 }
 
-// Writes the trace's sequence to the front of the buffer.
+// Writes the trace's sequence to the front of the buffer. By index, tried: of what is written through `chunks_exact_mut`, as through
+// any adapter of `iter_mut`, a proof learns nothing.
 fn write_followed(trace: &[u32], out: &mut [u32; SEQUENCE_WORDS])
     requires { TraceWithinLimits trace.now }
     ensures { out.new ≡ sets out.old 0 (words (followed trace.now)) }

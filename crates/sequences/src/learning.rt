@@ -1,6 +1,6 @@
 // Learn (paper 01, "Learning and containment").
 
-ghost use Rattle.std.specs.Prelude.{◌≡◌, true, IfOk};
+ghost use Rattle.std.specs.Prelude.{◌≡◌, true, IfOk, length};
 ghost use Rattle.obligations.specs.Sequence.{bindings};
 ghost use Rattle.obligations.specs.Tests.{position_of};
 ghost use Rattle.net.specs.Orderly.{orderly};
@@ -41,22 +41,26 @@ fn may_learn(net: &Net, words: &[u32]) -> Result<(), Refused>
     if !is_shaped(words, 3, n, net.start, net.end) {
         return Err(Refusal::WrongEnds.at(0));
     }
-    if let Some(place) = first_wrongly_empty(words) {
+    if let Some(place) = first_wrongly_empty(words, n) {
         return Err(Refusal::WronglyEmpty.at(place));
     }
     run(words)?;
     Ok(())
 }
 
-// The first position whose X or Y is empty or filled where it may not be: X is empty at the first only, Y at the last.
-fn first_wrongly_empty(words: &[u32]) -> Option<u32>
-    requires { WithinLimits words.now }
+// The first position whose X or Y is empty or filled where it may not be: X is empty at the first of the n positions only, Y at the
+// last.
+fn first_wrongly_empty(words: &[u32], n: usize) -> Option<u32>
+    requires within_limits { WithinLimits words.now }
+    requires count { n ≡ length (bindings words.now) }
     ensures { result ≡ position_of (first_wrongly_empty (bindings words.now)) }
 {
-    // In 32 bits, not by `enumerate`: of a count as wide as the length a compiler makes a division of the length by 3.
+    // In 32 bits, not by `enumerate`, and the last told by n, not by the words' length: of a count as wide as the length, or compared
+    // with it, a compiler makes a division of the length by 3.
+    let last = n as u32;
     for (position, binding) in (1u32..).zip(bindings(words)) {
         let is_first = position == 1;
-        let is_last = 3 * position as usize == words.len();
+        let is_last = position == last;
         if (binding.input == 0) != is_first || (binding.output == 0) != is_last {
             return Some(position);
         }

@@ -1,5 +1,5 @@
--- What a sink of text has to keep, and that the two sinks keep it: texts that are appended one after the other are appended as one. That
--- stands here and not in proofs/, since the sinks' impls name it.
+-- What a sink of text has to keep, and that the two sinks keep it: texts that are appended one after the other are appended as one. The
+-- proofs of it stand here and not in proofs/, since the sinks' impls name them.
 use Rattle.std.specs.Prelude.{ℕ, ◌+◌, ◌<◌, ◌^◌, ◌≡◌, List, [], ◌∷◌, ◌++◌, length, refl}
 use Rattle.std.proofs.Common.{suc, set, sym, ap, ◌∙◌, arith, add-zero, suc-add, add-suc, length-append}
 use Rattle.text.specs.Writing.{Room, Appends}

@@ -7,8 +7,7 @@ ghost use Rattle.text.specs.Decimal.{parse_number, print_number, well_led};
 pub fn read_number(field: &[u8], limit: u32) -> Option<u32>
     ensures { result ≡ parse_number limit field.now }
 {
-    let v = read_wide(field, u64::from(limit))?;
-    Some(v as u32)
+    u32::try_from(read_wide(field, u64::from(limit))?).ok()
 }
 
 // The same for a number of 64 bits. A digit is added only where the value then has 64 bits, so that none wraps however many

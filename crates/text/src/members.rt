@@ -1,12 +1,10 @@
 // Member lists: a set's activities in ascending order, separated by one space.
 
-ghost use Rattle.std.specs.Prelude.{◌≡◌, ◌+◌, ◌≤◌, length};
+ghost use Rattle.std.specs.Prelude.{◌≡◌, length};
 ghost use Rattle.text.specs.Members.{parse_members, print_members};
-ghost use Rattle.text.specs.Writing.{Room, Appends};
 
 use super::decimal::read_number;
 use super::fields::split;
-use super::out::Out;
 use super::sink::{Sink, Width};
 use obligations::ACTIVITIES;
 use obligations::sets::{members, with};
@@ -45,21 +43,11 @@ pub fn write_members<S: Sink>(out: &mut S, set: u32)
     }
 }
 
-// How many bytes the member list of a set takes.
+// How many bytes the member list of a set takes. By itself, since here a caller has no room to show: a word can count the bytes of any.
 pub fn members_width(set: u32) -> usize
     ensures { result ≡ length (print_members set) }
 {
     let mut width = Width(0);
     write_members(&mut width, set);
     width.0
-}
-
-impl<'a> Out<'a> {
-    // Writes the member list of a set.
-    pub fn members(&mut self, set: u32)
-        requires { Room self.old (print_members set) }
-        ensures { Appends self.old (print_members set) self.new }
-    {
-        write_members(self, set);
-    }
 }

@@ -74,17 +74,6 @@ unfolding with_if
 with_if_lt true k m h = union_lt m (single k) h (single_lt k)
 with_if_lt false k m h = h
 
--- of the activities passed those that pass a test are members, and one activity more is tested
-module _ (t : Bool) (a m : ℕ) (h : a < 32) where
-  pub member_passed : (k : ℕ) → k < a → member (with_if t a m) k ≡ member m k
-  member_passed k l = rw (member-with_if t a m k h, ne_eqb a k (omega arith), and-false t) (or-false (member m k))
-
-  pub member_tested : member m a ≡ false → member (with_if t a m) a ≡ t
-  member_tested e = rw (member-with_if t a m a h, e, eq-eqb a a refl) (and-true t)
-
-  pub member_to_come : (k : ℕ) → a < k → member m k ≡ false → member (with_if t a m) k ≡ false
-  member_to_come k l e = rw (member-with_if t a m k h, e, ne_eqb a k (omega arith)) (and-false t)
-
 member_below : (test : ℕ → Bool) (n j : ℕ) → n ≤ 32 → member (those_below n test) j ≡ ltb j n && test j
 unfolding those_below
 member_below test zero j h = member_none j ∙ sym (ap (λ (t : Bool). t && test j) (le-ltb j 0 (omega arith)))

@@ -15,7 +15,7 @@ use Rattle.obligations.specs.Sets.{member, single, union, minus, size}
 use Rattle.obligations.proofs.BoolLaws.{false-not-true, same_test, or_left, or_right, or_cases}
 use Rattle.obligations.proofs.SetLaws.{member-single, member_union, member-minus, member-with, union_lt, minus_lt}
 use Rattle.net.specs.Refusals.{accepted}
-use Rattle.net.specs.Sides.{masks_of, lengths_of, opposite, side_in, sets_on}
+use Rattle.net.specs.Sides.{masks_of, lengths_of, opposite, sets_on}
 use Rattle.net.specs.declared.Net.{Net}
 use Rattle.net.specs.declared.sides.Side.{Side}
 use Rattle.net.specs.declared.sides.Side.TheVariants.{Input, Output}

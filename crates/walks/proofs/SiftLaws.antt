@@ -1,7 +1,10 @@
--- A walk over a set's members that keeps those that pass a test: what is kept at the end is the set of them. Assumes nothing.
-use Rattle.std.proofs.Common.{ℕ, ◌≡◌, ◌<◌, ◌^◌, ◌⊎◌, Bool, true, false, ◌&&◌, List, [], ◌∷◌, fold, arith, inl, inr, ⊎_elim, subst, sym, refl, ◌∙◌}
+-- A set gathered from those of a list that pass a test: it is the set of them. The list is that of a set's members, or of all
+-- activities. Assumes nothing.
+use Rattle.std.proofs.Common.{ℕ, suc, zero, ◌≡◌, ◌<◌, ◌≤◌, ◌+◌, ◌^◌, ◌⊎◌, ◌↔◌, Bool, true, false, ◌&&◌, List, [], ◌∷◌, fold, filter, cond, arith, inl, inr, ⊎_elim, subst, sym, refl, ◌∙◌}
 use mathlib.Core.List.Memᴰ
 use mathlib.Core.List.{Memᴰ}
+use Rattle.std.specs.List.{range_with_len}
+use native.Mathlib.Nat.{eq-or-lt_of_le}
 use borrow.Author.Tests.{eqb-true, eq-eqb}
 use lib.Dec.{eqb}
 use Rattle.obligations.specs.Sets.{member, members, single, union}
@@ -11,23 +14,29 @@ use Rattle.obligations.proofs.MemberLaws.{members_are}
 use Rattle.walks.specs.Below.{with_if, those}
 use Rattle.walks.proofs.BelowLaws.{member-with_if, with_if_lt, those_are}
 
+-- the numbers from a on
+in_range : (n a k : ℕ) → Memᴰ k (range_with_len a n) → (a ≤ k) × (k < a + n)
+in_range zero a k m = absurd (Memᴰ.not-nil m)
+in_range (suc n) a k m = ⊎_elim (λ e. (omega (arith, e), omega (arith, e))) (λ t. let f = in_range n (a + 1) k t in (omega (arith, f.0), omega (arith, f.1))) (Memᴰ.cases_cons m)
+
+range_has : (n a k : ℕ) → a ≤ k → k < a + n → Memᴰ k (range_with_len a n)
+range_has zero a k l h = absurd (omega (arith, l, h))
+range_has (suc n) a k l h = ⊎_elim (λ e. Memᴰ.head (sym e)) (λ t. Memᴰ.tail (range_has n (a + 1) k (omega (arith, t)) (omega (arith, h)))) (eq-or-lt_of_le l)
+
 module _ (test : ℕ → Bool) where
-  -- those kept, and after a walk over more members those of them that pass
+  -- those kept, and after a walk over more numbers those of them that pass
   unfoldable pub sifted : ℕ → List ℕ → ℕ
   sifted kept ks = fold (λ m b. with_if (test b) b m) kept ks
 
-  -- one member more is walked over, and kept or passed
-  pub sift_kept : (kept : ℕ) {b : ℕ} {ks ms : List ℕ} {all : ℕ} → all ≡ sifted kept ms → ms ≡ b ∷ ks → true ≡ test b → all ≡ sifted (union kept (single b)) ks
+  -- the same, with those that pass taken out first
+  pub sifted_filter : (kept : ℕ) (ks : List ℕ) → fold (λ m b. union m (single b)) kept (filter test ks) ≡ sifted kept ks
   unfolding sifted with_if
-  sift_kept kept {b} {ks} i e t = rw (e, ← t) at i
-
-  pub sift_passed : (kept : ℕ) {b : ℕ} {ks ms : List ℕ} {all : ℕ} → all ≡ sifted kept ms → ms ≡ b ∷ ks → false ≡ test b → all ≡ sifted kept ks
-  unfolding sifted with_if
-  sift_passed kept {b} {ks} i e t = rw (e, ← t) at i
-
-  pub sift_end : (kept : ℕ) {ms : List ℕ} {all : ℕ} → all ≡ sifted kept ms → ms ≡ [] → kept ≡ all
-  unfolding sifted
-  sift_end kept i e = sym (rw e at i)
+  sifted_filter kept [] = refl
+  sifted_filter kept (b ∷ ks) = first (test b) ∙ sifted_filter (with_if (test b) b kept) ks
+    where
+      first : (t : Bool) → fold (λ m k. union m (single k)) kept (cond t (b ∷ filter test ks) (filter test ks)) ≡ fold (λ m k. union m (single k)) (with_if t b kept) (filter test ks)
+      first true = refl
+      first false = refl
 
   sifted_lt : (kept : ℕ) (ks : List ℕ) → kept < 2 ^ 32 → sifted kept ks < 2 ^ 32
   unfolding sifted
@@ -57,12 +66,19 @@ module _ (test : ℕ → Bool) where
       moved (inl e) = inl (here (inl e))
       moved (inr w) = ⊎_elim (λ q. inl (here (inr (and_both (subst (λ (j : ℕ). test j ≡ true) q w.1) (eq-eqb b k (sym q)))))) (λ t. inr (t, w.1)) (Memᴰ.cases_cons w.0)
 
-  pub sifted_set : (set : ℕ) → sifted 0 (members set) ≡ those (λ b. member set b && test b)
-  sifted_set set =
-      those_are (λ b. member set b && test b) (sifted 0 (members set)) (sifted_lt 0 (members set) (omega arith))
-      (λ k h. same_test (member (sifted 0 (members set)) k) (member set k && test k)
-      (λ e. ⊎_elim (λ z. absurd (false-not-true (member_none k) z)) (λ w. and_both ((members_are set k).0 w.0).1 w.1) (sifted_has (members set) 0 k below e))
-      (λ e. has_sifted (members set) 0 k below (inr ((members_are set k).1 (h, and_left (member set k) (test k) e), and_right (member set k) (test k) e))))
+  -- where the list has the activities that are in a class
+  pub sifted_those : (class : ℕ → Bool) (ks : List ℕ) → ((k : ℕ) → Memᴰ k ks ↔ ((k < 32) × (class k ≡ true))) → sifted 0 ks ≡ those (λ b. class b && test b)
+  sifted_those class ks are =
+      those_are (λ b. class b && test b) (sifted 0 ks) (sifted_lt 0 ks (omega arith))
+      (λ k h. same_test (member (sifted 0 ks) k) (class k && test k)
+      (λ e. ⊎_elim (λ z. absurd (false-not-true (member_none k) z)) (λ w. and_both ((are k).0 w.0).1 w.1) (sifted_has ks 0 k below e))
+      (λ e. has_sifted ks 0 k below (inr ((are k).1 (h, and_left (class k) (test k) e), and_right (class k) (test k) e))))
     where
-      below : (b : ℕ) → Memᴰ b (members set) → b < 32
-      below b m = ((members_are set b).0 m).0
+      below : (b : ℕ) → Memᴰ b ks → b < 32
+      below b m = ((are b).0 m).0
+
+  pub sifted_members : (set : ℕ) → fold (λ m b. union m (single b)) 0 (filter test (members set)) ≡ those (λ b. member set b && test b)
+  sifted_members set = sifted_filter 0 (members set) ∙ sifted_those (member set) (members set) (members_are set)
+
+  pub sifted_all : fold (λ m b. union m (single b)) 0 (filter test (range_with_len 0 32)) ≡ those test
+  sifted_all = sifted_filter 0 (range_with_len 0 32) ∙ sifted_those (λ b. true) (range_with_len 0 32) (λ k. ((λ m. ((in_range 32 0 k m).1, refl)), (λ w. range_has 32 0 k (omega arith) w.0)))

@@ -37,13 +37,9 @@ pub fn named_rows(sides: &Sides) -> Rows
 fn linked(set: u32, other: &Rows, a: u32) -> u32
     ensures { result ≡ linked set other.now a }
 {
-    let mut kept = 0;
-    for b in sets::members(set) {
-        if sets::has(other[b as usize], a) {
-            kept = sets::with(kept, b);
-        }
-    }
-    kept
+    sets::members(set)
+        .filter(|b| sets::has(other[*b as usize], a))
+        .fold(0, sets::with)
 }
 
 // For each activity a the members b of its own row such that a is in the other row of b. From outputs to inputs these are
@@ -59,32 +55,22 @@ pub fn links(own: &Rows, other: &Rows) -> Rows
     rows
 }
 
-// The activities that pass the test.
-fn those<F: Fn(u32) -> bool>(test: F) -> u32
-    requires { (a : ℕ) → a < activities → F.pre test a }
-    ensures { (a : ℕ) → a < activities → F.post test a (member result a) }
-{
-    let mut all = 0;
-    for a in 0..ACTIVITIES {
-        if test(a) {
-            all = sets::with(all, a);
-        }
-    }
-    all
-}
-
 // The activities whose own row has a member that their row of links lacks.
 pub fn unlinked(own: &Rows, links: &Rows) -> u32
     ensures { result ≡ unlinked own.now links.now }
 {
-    those(|a| sets::minus(own[a as usize], links[a as usize]) != 0)
+    (0..ACTIVITIES)
+        .filter(|a| sets::minus(own[*a as usize], links[*a as usize]) != 0)
+        .fold(0, sets::with)
 }
 
 // The activities whose lists are not empty.
 pub fn filled(lengths: &[u32; LISTS]) -> u32
     ensures { result ≡ filled lengths.now }
 {
-    those(|a| lengths[a as usize] != 0)
+    (0..ACTIVITIES)
+        .filter(|a| lengths[*a as usize] != 0)
+        .fold(0, sets::with)
 }
 
 // How many members the rows have together.

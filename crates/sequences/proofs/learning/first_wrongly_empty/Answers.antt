@@ -17,7 +17,7 @@ returns-then-binding-is_first c =
     let p = numbered _ _ _ n _ s.0.0 in
     sym (elim c.then-binding-is_first.branch [
       | then-binding-is_first-via-then-binding-is_first w ↦ input_wrong _ _ _ n.holds _ _ s.1 _ p (not-true _ w.if-binding-is_first.true)
-      | then-binding-is_first-via-else-binding-is_first+then-binding-is_last w ↦ output_wrong _ _ _ n.holds _ _ s.1 _ p _ c.requires.whole (not-true _ w.if-binding-is_last.true)
+      | then-binding-is_first-via-else-binding-is_first+then-binding-is_last w ↦ output_wrong _ _ _ n.holds _ _ s.1 _ p _ c.requires.count (not-true _ w.if-binding-is_last.true)
     ])
 
 pub loop-position-preserved : goal.loop-position-preserved
@@ -27,10 +27,10 @@ loop-position-preserved c =
       (tt, tt),
       tt,
       numbered_next _ _ _ n _ s.0.0 _ _ s.0.1 (agreeing_inside _ _ _ n.holds _ _ s.1)
-          (agreeing_next _ _ _ n.holds _ _ s.1 _ (numbered _ _ _ n _ s.0.0) _ c.requires.whole (not-false _ c.if-binding-is_first.false) (not-false _ c.if-binding-is_last.false)),
+          (agreeing_next _ _ _ n.holds _ _ s.1 _ (numbered _ _ _ n _ s.0.0) _ c.requires.count (not-false _ c.if-binding-is_first.false) (not-false _ c.if-binding-is_last.false)),
     )
 
 pub returns : goal.returns
 returns c =
     let n = c.loop-position.invariant.2 in
-    sym (⊎_elim (λ w. absurd (range_left _ _ _ n c.requires.few w.1.0)) (λ w. agreeing_end _ _ _ n.holds w.1.0) c.in-None.ensures.steps)
+    sym (⊎_elim (λ w. absurd (range_left _ _ _ n c.requires.within_limits.few w.1.0)) (λ w. agreeing_end _ _ _ n.holds w.1.0) c.in-None.ensures.steps)
