@@ -2,7 +2,7 @@
 -- Assumes nothing.
 use Prim.Native.Nat.{ℕ, suc, ◌+◌, ◌≤◌, ◌<◌}
 use mathlib.Core.Path.{◌≡◌, refl, sym, ap, ◌∙◌}
-use mathlib.Core.Bool.{Bool, true, false, ◌&&◌, cond}
+use mathlib.Core.Bool.{Bool, true, false, cond}
 use mathlib.Core.List.{List, [], ◌∷◌, ◌++◌}
 use native.Mathlib.Nat.{zero-add}
 use native.Mathlib.Numerals.{add-one}
@@ -14,13 +14,12 @@ use lib.Seq.{sets, sets-eq}
 use Rattle.obligations.specs.Tests.{indicator}
 use Rattle.text.specs.Bytes.{occurrences}
 use Rattle.text.proofs.FieldLaws.{length-split}
-use Rattle.std.specs.Prelude.{◌==◌, Some, None, is_some}
-use Rattle.std.specs.Bool.{then_some}
-use Rattle.std.specs.List.{list_all}
+use Rattle.std.specs.Prelude.{◌==◌, Some, None}
 use Rattle.obligations.proofs.BoolLaws.{and_left, and_right, false-not-true}
 use Rattle.text.specs.Fields.{space, split}
 use Rattle.text.specs.Decimal.{value, is_number, parse_number, all_numbers, values}
 use Rattle.text.specs.Members.{highest}
+use Rattle.text.proofs.DecimalLaws.{number-value, number-refused}
 use Rattle.logfile.specs.LogFile.{entries}
 use Rattle.logfile.specs.Row.{count_entries, IsTrace, TraceFilled}
 
@@ -55,25 +54,6 @@ counted-refused t = go (all_numbers highest (entries t))
     go true q = cc
     go false q = refl
 
--- a test of each entry is a test of all
-pub each_read : (fs : List (List ℕ)) → list_all (λ f. is_some (parse_number highest f)) fs ≡ all_numbers highest fs
-unfolding parse_number
-each_read [] = refl
-each_read (f ∷ fs) = go (is_number highest f) (each_read fs)
-  where
-    go : (b : Bool) → list_all (λ f. is_some (parse_number highest f)) fs ≡ all_numbers highest fs → is_some (cond b (Some (value f)) None) && list_all (λ f. is_some (parse_number highest f)) fs ≡ b && all_numbers highest fs
-    go true e = e
-    go false e = refl
-
--- a trace field's count, from the test of its entries and its spaces
-pub count_tested : (t : List ℕ) (tested : Bool) (n : ℕ) → entries t ≡ split space t → tested ≡ all_numbers highest (split space t) → n ≡ occurrences space t → then_some tested (n + 1) ≡ count_entries t
-unfolding count_entries
-count_tested t tested n e a s = rw (a, e, s, length-split space t, add-one (occurrences space t)) (go (all_numbers highest (split space t)))
-  where
-    go : (b : Bool) → then_some b (suc (occurrences space t)) ≡ cond b (Some (suc (occurrences space t))) None
-    go true = refl
-    go false = refl
-
 -- a trace has hardly more entries than bytes
 occurrences_most : (c : ℕ) (s : List ℕ) → occurrences c s ≤ length s
 occurrences_most c [] = omega arith
@@ -85,6 +65,25 @@ occurrences_most c (b ∷ s) = go (eqb b c) (occurrences_most c s)
 
 pub few_fields : (t : List ℕ) → length (split space t) ≤ length t + 1
 few_fields t = omega (arith, length-split space t, occurrences_most space t)
+
+-- ---- counting them: n entries stand before those left, and all are numbers exactly if those left are
+
+pub record Counting (fs : List (List ℕ)) (n : ℕ) (left : List (List ℕ)) : Type 0 where
+  pub total : n + length left ≡ length fs
+  pub numbers : all_numbers highest fs ≡ all_numbers highest left
+
+pub counting-start : (fs left : List (List ℕ)) → left ≡ fs → Counting fs 0 left
+counting-start fs left e = rw e (record { total = zero-add (length fs); numbers = refl })
+
+module _ (fs : List (List ℕ)) (n : ℕ) (left : List (List ℕ)) (c : Counting fs n left) where
+  pub counting_refused : (f : List ℕ) (rest : List (List ℕ)) → left ≡ f ∷ rest → parse_number highest f ≡ None → all_numbers highest fs ≡ false
+  counting_refused f rest e r = c.numbers ∙ rw (e, number-refused highest f r)
+
+  pub counting_more : (f : List ℕ) (rest : List (List ℕ)) (k : ℕ) → left ≡ f ∷ rest → parse_number highest f ≡ Some k → Counting fs (n + 1) rest
+  counting_more f rest k e r = record { total = omega (arith, c.total, ap length e); numbers = c.numbers ∙ rw (e, (number-value highest f k r).0) }
+
+  pub counting_end : left ≡ [] → (all_numbers highest fs ≡ true) × (n ≡ length fs)
+  counting_end e = (c.numbers ∙ rw e, omega (arith, c.total, ap length e))
 
 -- ---- writing them: those left, stored from k on, give the buffer with all stored
 

@@ -1,5 +1,6 @@
 -- The laws of the definitions in specs/, by concept.
 pub mod EntryLaws
+pub mod CountLaws
 pub mod RowLaws
 pub mod PrintLaws
 pub mod AnswerLaws

@@ -8,7 +8,6 @@ ghost use Rattle.logfile.specs.Row.{fault_of, count_entries, parse_sessions, IsT
 use super::{LOG_ROWS, MOST_SESSIONS, Row};
 use net::{Refusal, Refused};
 use obligations::{ACTIVITIES, POSITIONS};
-use text::bytes::count_byte;
 use text::decimal::read_number;
 use text::fields::split;
 
@@ -49,16 +48,18 @@ fn read_sessions(field: &[u8]) -> Option<u32>
     read_number(field, MOST_SESSIONS).filter(|sessions| *sessions != 0)
 }
 
-// How many entries a trace has, if all are activities: one more than its spaces. Those past the last that a trace may have are
-// tested too, since a wrong one among them is refused by 14, which comes before 3.
+// How many entries a trace has, if all are activities. Those past the last that a trace may have are read too, since a wrong one
+// among them is refused by 14, which comes before 3.
 fn count_entries(trace: &[u8]) -> Option<usize>
     ensures { result ≡ count_entries trace.now }
 {
     if trace.is_empty() {
         return Some(0);
     }
-    let all_read = split(trace, b' ').all(|entry| read_number(entry, ACTIVITIES - 1).is_some());
-    all_read.then_some(count_byte(trace, b' ') + 1)
+    split(trace, b' ').try_fold(0, |n, entry| {
+        read_number(entry, ACTIVITIES - 1)?;
+        Some(n + 1)
+    })
 }
 
 // Writes the entries of a trace, which were found to be activities, to the buffer's front. By index, tried: of what is written through

@@ -80,7 +80,12 @@ impl Registers {
     }
 
     // peek R I N: N words of register R from I on. They are left as they are: `word_of` finds a word for poke too.
-    pub fn peek<'w>(&mut self, r: Register, args: &[u32], buf: &'w mut [u32]) -> Option<Answer<'w>> {
+    pub fn peek<'w>(
+        &mut self,
+        r: Register,
+        args: &[u32],
+        buf: &'w mut [u32],
+    ) -> Option<Answer<'w>> {
         let [i, n] = *args else {
             return None;
         };

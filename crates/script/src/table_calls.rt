@@ -61,9 +61,7 @@ pub fn text(text: &mut Text, numbers: &[u64], script: &mut Script) -> Option<Ans
 
 // show: the text register.
 pub fn show<'t>(text: &'t Text, numbers: &[u64]) -> Option<Answer<'t>> {
-    numbers
-        .is_empty()
-        .then_some(Answer::Shown(text.as_slice()))
+    numbers.is_empty().then_some(Answer::Shown(text.as_slice()))
 }
 
 // readrow ROW N: reads row ROW of the text as a log, with a buffer of N words. No trace has more words than the buffer; one that had

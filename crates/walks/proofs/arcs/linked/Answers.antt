@@ -12,8 +12,12 @@ use Rattle.walks.proofs.SiftLaws.{sifted_members}
 use Rattle.walks.proofs.arcs.linked.Goals as goal
 
 pub fold-requires-clause-can : goal.fold-requires-clause-can
-fold-requires-clause-can c = (tt, tt, serves_from_places (YieldsList-from_first (λ x. x) (λ s. members s.rest) (members c.args.set) (cc)) (λ x q w. search (rules, tests))
-    (λ x k h e. let here : x < 32 = ((members_are c.args.set x).0 (rw e (member-at (members c.args.set) k x h))).0 in search (rules, tests)))
+fold-requires-clause-can c = (
+  tt,
+  tt,
+  serves_from_places (YieldsList-from_first (λ x. x) (λ s. members s.rest) (members c.args.set) (cc)) (λ x q w. search (rules, tests))
+      (λ x k h e. let here : x < 32 = ((members_are c.args.set x).0 (rw e (member-at (members c.args.set) k x h))).0 in search (rules, tests)),
+)
 
 pub returns : goal.returns
 unfolding linked has
