@@ -24,18 +24,15 @@ impl Call {
     ];
 }
 
-// No call has this number.
+// A number that is no call's.
 #[derive(Clone, Copy)]
-pub struct NoCall(pub u32);
+pub struct NoCall;
 
 impl TryFrom<u32> for Call {
     type Error = NoCall;
 
     fn try_from(number: u32) -> Result<Call, NoCall> {
-        Call::ALL
-            .get(number as usize)
-            .copied()
-            .ok_or(NoCall(number))
+        Call::ALL.get(number as usize).copied().ok_or(NoCall)
     }
 }
 

@@ -6,14 +6,26 @@
 
 mod call;
 mod nets;
+mod repeating;
 mod texts;
 
 use call::Call;
+use files::read_file;
+use net::Net;
+use repeating::repeat;
 use std::rt::{Env, Files};
 use text::decimal::read_number;
 
 // What a refusal counts: more than all other answers together, so that it shows in the sum.
-pub const REFUSED: u64 = 1099511627776;
+pub const REFUSED: u64 = 1 << 40;
+
+// The files that are read.
+const NET: &[u8] = b"net.csv";
+
+const LOG: &[u8] = b"log.csv";
+
+// Room for a file, as much as the program `replay` takes.
+const TEXT_ROOM: usize = 65536;
 
 // How often a call is made if the arguments don't say.
 const FEW: u32 = 24;
@@ -39,19 +51,25 @@ fn argument<R: Env>(rt: &R, k: usize) -> Option<u32> {
 
 // Makes a call so often, and prints its line.
 fn print_line<R: Files + Print + Eprint>(rt: &R, call: Call, count: u32) {
-    let sum = repeat(rt, call, count);
+    let sum = sum_of(rt, call, count);
     let _ = println!(rt; "{call:<10}{sum}");
 }
 
 // Makes a call so often, and returns the sum of its answers. Calls that grow a net start from a fresh one.
-fn repeat<R: Files + Eprint>(rt: &R, call: Call, count: u32) -> u64 {
+fn sum_of<R: Files + Eprint>(rt: &R, call: Call, count: u32) -> u64 {
     let fresh = net::fresh(0, 4).net;
+    let mut buf = [0u8; TEXT_ROOM];
     match call {
-        Call::Put => nets::repeat(count, fresh, nets::put),
-        Call::Learn => nets::repeat(count, fresh, nets::learn),
-        Call::Check => nets::repeat(count, texts::net_in(rt, b"net.csv"), nets::check),
-        Call::Judge => nets::repeat(count, texts::net_in(rt, b"net.csv"), nets::judge),
-        Call::ReadNet => texts::repeat(rt, b"net.csv", count, texts::read_net),
-        Call::ReadRow => texts::repeat(rt, b"log.csv", count, texts::read_row),
+        Call::Put => repeat(count, fresh, nets::put),
+        Call::Learn => repeat(count, fresh, nets::learn),
+        Call::Check => repeat(count, net_in(rt, &mut buf), nets::check),
+        Call::Judge => repeat(count, net_in(rt, &mut buf), nets::judge),
+        Call::ReadNet => repeat(count, read_file(rt, NET, &mut buf), texts::read_net),
+        Call::ReadRow => repeat(count, read_file(rt, LOG, &mut buf), texts::read_row),
     }
+}
+
+// The net in the net file; of one that is refused the fresh net of 0 and 1.
+fn net_in<R: Files + Eprint>(rt: &R, buf: &mut [u8]) -> Net {
+    netfile::read_net(read_file(rt, NET, buf)).net
 }

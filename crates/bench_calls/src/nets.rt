@@ -7,22 +7,6 @@ const SEQUENCE: [u32; 24] = [
     0, 0, 2, 1, 1, 6, 1, 2, 12, 2, 2, 8, 2, 2, 8, 3, 6, 8, 3, 12, 16, 4, 8, 0,
 ];
 
-// Makes a call so often, every other time on the net that is given here and then on the one that the call left. So puts and
-// learns differ from one to the next, and of the others the compiler can't tell that they don't: it leaves none out.
-pub fn repeat<F: Fn(&mut Net, u32) -> u64>(count: u32, given: Net, call: F) -> u64
-    requires { F.IsAlwaysCallable call }
-{
-    let mut net = given;
-    let mut sum: u64 = 0;
-    for i in 0..count {
-        if i % 2 == 0 {
-            net = given;
-        }
-        sum = sum.wrapping_add(call(&mut net, i));
-    }
-    sum
-}
-
 // Puts another set each time.
 pub fn put(net: &mut Net, i: u32) -> u64 {
     let done = net::put(*net, Side::Output, 1, i % 1000000 + 1);

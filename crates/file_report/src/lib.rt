@@ -14,12 +14,11 @@ use std::rt::Files;
 // Room for a file and one byte more, so that a longer one is seen to be longer.
 const FILE_ROOM: usize = FILE_BYTES + 1;
 
-// Prints the report of a net file and a log file, and answers whether all of it could be printed. The log is opened only
-// after the net has passed.
+// Prints the report of a net file and a log file, and answers whether all of it could be printed, as `print` does. The log is
+// opened only after the net has passed.
 pub fn print_report<R: Files + Print + Eprint>(rt: &R, net_path: &[u8], log_path: &[u8]) -> bool {
     let mut text = [0u8; FILE_ROOM];
-    let n = read_file(rt, net_path, &mut text);
-    let read = read_checked(&text[..n]);
+    let read = read_checked(read_file(rt, net_path, &mut text));
     match read.answer {
         Ok(()) => print_log(rt, read.net, log_path, &mut text),
         Err(refused) => print_refusal(rt, refused),
@@ -38,7 +37,6 @@ fn print_log<R: Files + Print + Eprint>(rt: &R, net: Net, path: &[u8], text: &mu
     requires { orderly net ≡ true }
 {
     let mut out = [0u8; REPORT_ROOM];
-    let n = read_file(rt, path, text);
-    let k = report_log(net, &text[..n], &mut out);
+    let k = report_log(net, read_file(rt, path, text), &mut out);
     print(rt, &out[..k])
 }

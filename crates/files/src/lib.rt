@@ -1,17 +1,17 @@
 // Files and standard streams as a program needs them. A file is read whole or not at all: a read that fails must not pass
 // for the file's end, since half a net may say "none" where the whole one has a route. What can't be opened, read or
-// written is said on standard error, with the system's reason. So what is answered is how much there is, or whether it was
-// written, and no `Result`: a caller has nothing left to do about it.
+// written is said on standard error, with the system's reason. So what is answered is what there is, or whether it was written,
+// and no `Result`: no error is left to hand on.
 //
-// No contract of std says what a file holds, so the contracts of the public functions give lengths only. What is read of a
+// A file is named by bytes, of which any may be given: what is no text names no file. No contract of std says what a file holds, so
+// the contracts of the public functions give lengths only. What is read of a
 // reader whose bytes are known, and written to such a writer, is said in full by the functions that they call.
 
 #![tactic(auto)]
 
 mod moving;
 
-ghost use Rattle.std.specs.Prelude.{◌<◌, length, take};
-ghost use Rattle.io.specs.Counts.{IsPrefixLen};
+ghost use Rattle.std.specs.Prelude.{◌<◌, ◌≤◌, length};
 ghost use Rattle.std.specs.Io.KnownBytes.{Consumes, IsAtEnd};
 
 use moving::{read_whole, write_whole};
@@ -27,28 +27,28 @@ const REASON: usize = 256;
 // Where the system shows a program its own standard output.
 const OUTPUT: &str = "/dev/stdout";
 
-// Reads a file into the buffer and returns how many bytes of it stand there. A file that can't be opened, or of which any
-// read fails, is taken as empty. Of a longer file the front is read, as much as the buffer holds.
-pub fn read_file<R: Files + Eprint>(rt: &R, path: &[u8], buf: &mut [u8]) -> usize
-    ensures { IsPrefixLen result buf.new }
+// Reads a file into the buffer and returns what was read. A file that can't be opened, or of which any read fails, is taken as
+// empty. Of a longer file the front is read, as much as the buffer holds.
+pub fn read_file<'b, R: Files + Eprint>(rt: &R, path: &[u8], buf: &'b mut [u8]) -> &'b [u8]
+    ensures { length result.now ≤ length buf.old }
 {
     let Ok(name) = str::from_utf8(path) else {
         let error = io::Error::from(ErrorKind::InvalidFilename);
         say(rt, "open", "a file whose name is no text", error);
-        return 0;
+        return &[];
     };
     match File::open(rt, name) {
         Ok(mut file) => read_or_say(rt, &mut file, name, buf),
         Err(error) => {
             say(rt, "open", name, error);
-            0
+            &[]
         }
     }
 }
 
 // The same of standard input.
-pub fn read_input<R: Input + Eprint>(rt: &R, buf: &mut [u8]) -> usize
-    ensures { IsPrefixLen result buf.new }
+pub fn read_input<'b, R: Input + Eprint>(rt: &R, buf: &'b mut [u8]) -> &'b [u8]
+    ensures { length result.now ≤ length buf.old }
 {
     read_or_say(rt, &mut rt.reader(), "standard input", buf)
 }
@@ -64,8 +64,8 @@ pub fn print<R: Print + Eprint>(rt: &R, bytes: &[u8]) -> bool {
     }
 }
 
-// Has what was printed brought to where it stays, if it went to a file: some file systems tell only then that it didn't
-// arrive. Closing would tell as well, but std closes no output.
+// Has what was printed brought to where it stays, if standard output is a file: some file systems tell only then that it didn't
+// arrive. Closing it would tell as well, but std closes no output.
 pub fn close_output<R: Files + Eprint>(rt: &R) {
     if let Err(error) = keep_output(rt) {
         say(rt, "write", "standard output", error);
@@ -74,16 +74,21 @@ pub fn close_output<R: Files + Eprint>(rt: &R) {
 
 // Reads what is open, or says that it can't be read. What isn't taken as empty is read to its end or as far as the buffer
 // holds it.
-fn read_or_say<R: Eprint, F: Read>(rt: &R, file: &mut F, name: &str, buf: &mut [u8]) -> usize
-    ensures bound { IsPrefixLen result buf.new }
-    ensures bytes { 0 < result → Consumes (F.remaining file.old) (F.remaining file.new) (take result buf.new) }
-    ensures whole { 0 < result → result < length buf.new → IsAtEnd (F.remaining file.new) }
+fn read_or_say<'b, R: Eprint, F: Read>(
+    rt: &R,
+    file: &mut F,
+    name: &str,
+    buf: &'b mut [u8],
+) -> &'b [u8]
+    ensures bound { length result.now ≤ length buf.old }
+    ensures bytes { 0 < length result.now → Consumes (F.remaining file.old) (F.remaining file.new) result.now }
+    ensures whole { 0 < length result.now → length result.now < length buf.old → IsAtEnd (F.remaining file.new) }
 {
     match read_whole(file, buf) {
-        Ok(n) => n,
+        Ok(n) => &buf[..n],
         Err(error) => {
             say(rt, "read", name, error);
-            0
+            &[]
         }
     }
 }
@@ -97,13 +102,12 @@ fn say<R: Eprint>(rt: &R, what: &str, name: &str, error: io::Error) {
 
 // A reason as the system words it: std puts the error's number behind it.
 fn without_number(reason: &str) -> &str {
-    match reason.split_once(" (os error ") {
-        Some((words, _)) => words,
-        None => reason,
-    }
+    reason
+        .split_once(" (os error ")
+        .map_or(reason, |(words, _)| words)
 }
 
-// What comes of it where standard output is a file. Of what is none, as a pipe or a terminal, there is nothing to keep.
+// Brings standard output to the disk, if it is a file. Of a pipe or a terminal there is nothing to bring.
 fn keep_output<R: Files>(rt: &R) -> io::Result<()> {
     let Ok(about) = fs::metadata(rt, OUTPUT) else {
         return Ok(());

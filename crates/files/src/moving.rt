@@ -13,13 +13,13 @@ use std::io::{ErrorKind, Read, Write};
 const TRIES: u32 = 1000;
 
 // Reads until the file ends or the buffer is full, and returns how many bytes stand at the buffer's front. They are what
-// the reader gave, and if they don't fill the buffer nothing is left in it.
+// the reader gave, and if they don't fill the buffer nothing is left in it. std reads until either only into a `Vec`.
 pub fn read_whole<R: Read>(reader: &mut R, buf: &mut [u8]) -> io::Result<usize>
     ensures bound { ReadsAtMost result buf.new }
     ensures bytes { IfOk result (λ n. Consumes (R.remaining reader.old) (R.remaining reader.new) (take n buf.new)) }
     ensures end { IfOk result (λ n. n < length buf.new → IsAtEnd (R.remaining reader.new)) }
 {
-    // An index, since what the contract says is of the buffer's front, up to it.
+    // The index is what is returned.
     let mut done: usize = 0;
     while done < buf.len() {
         let more = read_some(reader, &mut buf[done..])?;
@@ -31,23 +31,24 @@ pub fn read_whole<R: Read>(reader: &mut R, buf: &mut [u8]) -> io::Result<usize>
     Ok(done)
 }
 
-// Writes all bytes: a write that fails or takes nothing ends it.
+// Writes all bytes: a write that fails or takes nothing ends it. Not std's `write_all`, which tries an interrupted write as often as it
+// is interrupted.
 pub fn write_whole<W: Write>(writer: &mut W, bytes: &[u8]) -> io::Result<()>
     ensures { OnOk result (Appends (W.contents writer.old) (W.contents writer.new) bytes.now) }
 {
-    // An index, since what the contract says is of the front that is written, up to it.
-    let mut done: usize = 0;
-    while done < bytes.len() {
-        let more = write_some(writer, &bytes[done..])?;
+    let mut rest = bytes;
+    while !rest.is_empty() {
+        let more = write_some(writer, rest)?;
         if more == 0 {
             return Err(io::Error::from(ErrorKind::WriteZero));
         }
-        done += more;
+        rest = &rest[more..];
     }
     Ok(())
 }
 
-// One read that no signal interrupts.
+// One read that no signal interrupts. Not one function with `write_some`: it would take a closure that reads or writes, and ask of it
+// that a call which was interrupted moved nothing.
 fn read_some<R: Read>(reader: &mut R, buf: &mut [u8]) -> io::Result<usize>
     ensures bound { ReadsAtMost result buf.new }
     ensures bytes { ReadConsumes (R.remaining reader.old) (R.remaining reader.new) result buf.new }
@@ -79,8 +80,5 @@ fn write_some<W: Write>(writer: &mut W, bytes: &[u8]) -> io::Result<usize>
 fn interrupted(answer: &io::Result<usize>) -> bool
     ensures { IsTrue result → IsErr answer.now }
 {
-    match answer {
-        Ok(_) => false,
-        Err(error) => error.kind() == ErrorKind::Interrupted,
-    }
+    matches!(answer, Err(error) if error.kind() == ErrorKind::Interrupted)
 }

@@ -67,7 +67,7 @@ pub fn read_row(text: &[u8], row: u64, out: &mut [u32]) -> Result<Option<Row>, R
 }
 
 // Reads the row at a cursor. From `start` on, and each time with the cursor that was returned, it gives row 1, row 2 and
-// so on.
+// so on. The cursor is passed and returned by value, as a net is: a caller may keep one and go on from it again.
 pub fn next_row(text: &[u8], mut cursor: Cursor, out: &mut [u32]) -> NextRow
     ensures { NextRead text.now cursor out.old result out.new }
 {

@@ -30,7 +30,8 @@ pub fn row_line(number: u32, line: &[u8]) -> Result<(Row, &[u8]), Refused>
     Ok((row, trace))
 }
 
-// The fields of a line that has two.
+// The fields of a line that has two. Not one function with `three_fields` of `netfile`: for any number of fields it would fill an array
+// in a loop, and be no plainer.
 fn two_fields(line: &[u8]) -> Option<(&[u8], &[u8])>
     ensures { MatchOption result (length (split comma line.now) ≡ 2 → ⊥) (λ f. split comma line.now ≡ f.0.now ∷ f.1.now ∷ []) }
 {

@@ -12,7 +12,7 @@ pub enum Answer<'a> {
     Words(&'a [u32]),
     // The text register. Its bytes may be no text, so they are written behind this line.
     Shown(&'a [u8]),
-    // A replay's outcomes, and no `Outcome`, since a sequence that was found stands in the buffer that was lent and is written too.
+    // A replay's outcomes, the first with the sequence. The crate `search` has them too, but this one doesn't build on it.
     Found { trials: u64, sequence: &'a [u32] },
     Failed { trials: u64 },
     Spent { trials: u64 },
@@ -21,7 +21,8 @@ pub enum Answer<'a> {
     Refused(Refused),
 }
 
-// The answer of a call: what `value` makes of what it gave, or its refusal.
+// The answer of a call: what `value` makes of what it gave, or its refusal. Not `map_or_else`, tried: Rattle doesn't take a function
+// there whose result has a lifetime of its own.
 pub fn answered<'a, T, F>(called: Result<T, Refused>, value: F) -> Answer<'a>
 where
     F: FnOnce(T) -> Answer<'a>,
@@ -33,7 +34,8 @@ where
     }
 }
 
-// An answer, and whether a word or byte of a lent buffer that the call must leave as it was has changed.
+// An answer, and whether a word or byte of a lent buffer that the call must leave as it was has changed. Both are known of every
+// command, so this is no `Option` or `Result`.
 #[derive(Clone, Copy)]
 pub struct Reply<'a> {
     pub answer: Answer<'a>,

@@ -5,7 +5,8 @@
 ghost use Rattle.std.specs.Prelude.{ℕ, ◌≡◌, ◌↔◌, IsTrue, length};
 ghost use Rattle.machine.specs.Buffers.{untouched_word, untouched_byte, Filled, AllFrom};
 
-// A buffer. Only its length is known, which is what lending it takes.
+// A buffer. Its contract gives only a length, which is what lending it takes: a proof that looked into four million bytes would not
+// end.
 pub fn room<T: Copy + Default, const N: usize>() -> [T; N]
     ensures { length result ≡ N }
 {
@@ -25,7 +26,7 @@ impl Pattern for u32 {
     ghost untouched = { untouched_word };
 
     fn untouched(k: usize) -> u32 {
-        4294967295 - (k % 65536) as u32
+        u32::MAX - (k % 65536) as u32
     }
 }
 
@@ -33,7 +34,7 @@ impl Pattern for u8 {
     ghost untouched = { untouched_byte };
 
     fn untouched(k: usize) -> u8 {
-        255 - (k % 251) as u8
+        u8::MAX - (k % 251) as u8
     }
 }
 

@@ -9,7 +9,7 @@ use text::fields::Fields;
 pub const NUMBERS: usize = 1024;
 
 // Reads the numbers that fields say into the buffer's front: none, if one of them says no number or there are more than the buffer
-// holds. Counted by hand, since a field too many must be seen.
+// holds. They are counted, since what is returned is as long as they are many.
 pub fn read_numbers<'n>(fields: Fields, buf: &'n mut [u64]) -> Option<&'n [u64]>
     ensures { IfSome result (λ numbers. length numbers.now ≤ length buf.old) }
 {

@@ -10,7 +10,7 @@ use std::fmt::Write;
 // Room for answers.
 const OUT_ROOM: usize = 65536;
 
-// What is gathered: the first `len` bytes of the buffer. No `Vec`, since the programs use no heap.
+// What is gathered: the first `len` bytes of an array, and no `Vec`, since the programs use no heap.
 #[derive(Drop)]
 pub struct Output<'a, R> {
     rt: &'a R,

@@ -23,9 +23,9 @@ pub struct Register {
     ghost within: { index < REGISTERS },
 }
 
-// No register has this number.
+// A number that is no register's.
 #[derive(Clone, Copy)]
-pub struct NoRegister(pub u64);
+pub struct NoRegister;
 
 impl TryFrom<u64> for Register {
     type Error = NoRegister;
@@ -33,7 +33,7 @@ impl TryFrom<u64> for Register {
     fn try_from(number: u64) -> Result<Register, NoRegister> {
         let index = number as usize;
         if REGISTERS <= index {
-            return Err(NoRegister(number));
+            return Err(NoRegister);
         }
         Ok(Register { index })
     }
@@ -79,7 +79,8 @@ impl Registers {
         Some(Answer::Done)
     }
 
-    // peek R I N: N words of register R from I on. They are left as they are: `word_of` finds a word for poke too.
+    // peek R I N: N words of register R from I on. `&mut self`, though nothing changes: `word_of` lends a word to be changed, and one
+    // that lends it to be read would be its twin.
     pub fn peek<'w>(
         &mut self,
         r: Register,

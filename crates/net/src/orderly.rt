@@ -9,8 +9,8 @@ use crate::{Net, SETS, Sides, lists};
 use obligations::ACTIVITIES;
 
 // Whether a net record is orderly. Each call asks this of its nets, since their words may be any. The functions behind it have it as a
-// clause and not in a type. Where the net is changed, a type would be a copy of the net or a loan of it that stands in the way. Where
-// it is only read, a type would carry one fact through two or three calls, and hide from a reader of their contracts which it is.
+// clause and not in a type. Such a type would be a struct around a lent net. A net that is being changed can't be lent beside it; and
+// where a net is only read, the struct would take one clause off a contract and stand before each mention of the net in it.
 pub fn is_orderly(net: &Net) -> bool
     ensures { result ≡ orderly net.now }
 {

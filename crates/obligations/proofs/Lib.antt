@@ -13,6 +13,7 @@ pub mod TotalLaws
 pub mod StepLaws
 pub mod PositionLaws
 pub mod TraceLaws
+pub mod StoreLaws
 pub mod SequenceLaws
 pub mod WalkLaws
 pub mod Theorems

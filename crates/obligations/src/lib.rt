@@ -10,7 +10,8 @@ pub mod sets;
 pub mod state;
 pub mod trace;
 
-// Activities are the numbers below this.
+// Activities are the numbers below this. They are words and no type of their own: the words of nets, sequences and traces may be any,
+// and are tested once, at the call. What is called then asks in its contract that an activity is one.
 pub const ACTIVITIES: u32 = 32;
 
 // The pairs (p, q) of activities: how many counts a state has.

@@ -68,7 +68,8 @@ pub fn members(set: u32) -> MemberIter
     MemberIter { rest: set }
 }
 
-// A walk over a set's members: those that are left. The next turn does not wait for the member's number.
+// A walk over a set's members: those that are left. The lowest is taken off without its number, so that the next turn doesn't wait for
+// it.
 #[derive(Clone, Copy)]
 pub struct MemberIter {
     rest: u32,

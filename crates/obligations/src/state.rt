@@ -124,7 +124,8 @@ impl Due {
         self.undo_take(binding.activity, binding.input);
     }
 
-    // Whether every count is zero. Most states that are tested have something due, and mostly in the first part already.
+    // Whether every count is zero. Most states that are tested have something due, and mostly in the first part already. The parts are
+    // cut by index: of `chunks_exact` the replay would have a division.
     pub fn is_zero(&self) -> bool
         ensures { result ≡ all_zero self.now }
     {

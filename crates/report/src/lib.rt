@@ -62,7 +62,8 @@ pub fn read_checked(text: &[u8]) -> Returned<()>
 }
 
 // Writes the report of a log in a net that has been checked to the front of the buffer, and returns its length. The whole
-// log is read before anything is written: what is said of the row after the last that a log may have is said of the log.
+// log is read before anything is written: the row after the last that a log may have is asked for, and by any fault before it that is
+// refused.
 pub fn report_log(net: Net, text: &[u8], out: &mut [u8]) -> usize
     requires { (orderly net ≡ true) × (report_room ≤ length out.old) }
     ensures { Wrote out.old 0 (log_text net text.now) out.new result }

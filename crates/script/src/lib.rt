@@ -29,13 +29,13 @@ const SCRIPT_ROOM: usize = SCRIPT_BYTES + 1;
 
 // Runs the script on standard input and writes its answers to standard output.
 pub fn run_script<R: Input + Print + Eprint>(rt: &R) {
-    let mut bytes = room::<u8, SCRIPT_ROOM>();
-    let n = read_input(rt, &mut bytes);
-    if SCRIPT_BYTES < n {
+    let mut buf = room::<u8, SCRIPT_ROOM>();
+    let bytes = read_input(rt, &mut buf);
+    if SCRIPT_BYTES < bytes.len() {
         print(rt, b"?\n");
         return;
     }
-    run_lines(rt, Script::new(&bytes[..n]));
+    run_lines(rt, Script::new(bytes));
 }
 
 // Runs the lines one after the other. What no LF ends is no command, unless it is a comment.

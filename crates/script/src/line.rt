@@ -15,7 +15,7 @@ pub fn is_comment(line: &[u8]) -> bool {
     line.starts_with(b"#")
 }
 
-// Runs a line, if it is a command: one with a field that is no number is none.
+// Runs a line. It is no command if a field behind its word is no number.
 pub fn run_line<'m>(state: &'m mut State, line: &[u8], script: &mut Script) -> Option<Reply<'m>>
     ensures { length script.new.rest.now ≤ length script.old.rest.now }
 {
@@ -52,7 +52,7 @@ fn run_command<'m>(
 }
 
 // Runs one of the other commands: its first number is a register's, and the rest are words. Most take the registers, the register and
-// the words as they are: some change the registers and some only read them, so that one struct of the three would not do for all.
+// the words as they are, and no struct of the three: it would be made here and taken apart in each.
 fn run_on_register<'m>(
     registers: &mut Registers,
     text: &Text,

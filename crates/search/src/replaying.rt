@@ -36,7 +36,7 @@ fn has_room(n: usize, room: usize) -> bool
     n <= POSITIONS && 3 * n <= room
 }
 
-// The replay of a trace in a net that has been checked, which refuses none, with the net lent, so that nothing is copied.
+// The replay of a trace in a lent net that has passed the check: nothing is left to refuse, and nothing is copied.
 pub fn replay_lent(net: &Net, trace: &[u32], budget: u64, out: &mut [u32]) -> Outcome
     requires sides { SidesFit net.now.inputs × SidesFit net.now.outputs }
     requires trace_with_room { TraceWithRoom trace.now (length out.old) }

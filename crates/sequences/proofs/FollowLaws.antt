@@ -5,7 +5,7 @@ use mathlib.Core.Path.{◌≡◌, refl, ap, ◌∙◌}
 use mathlib.Core.Bool.{true, false}
 use mathlib.Core.List.{List, [], ◌∷◌}
 use mathlib.Core.Logic.{⊎_elim}
-use native.Mathlib.Numerals.{add-one, add-two, add-three}
+use native.Mathlib.Numerals.{add-one, add-three}
 use native.Mathlib.Omega.{arith}
 use borrow.Author.Tests.{lt-ltb, le-ltb}
 use lib.ListN.{length, get_or, take, drop, drop_of_length-le}
@@ -65,8 +65,9 @@ followed-activity x (a ∷ b ∷ t) (suc i) h = followed-activity (single a) (b 
 
 pub write_step : (buf : List ℕ) (place x : ℕ) (t : List ℕ) (i : ℕ) → i < length t
     → sets buf place (words (followed_from x (drop i t)))
-    ≡ sets (lib.ListN.set (lib.ListN.set (lib.ListN.set buf place (get_or t i 0)) (place + 1) x) (place + 2) (next_set t i)) (place + 3) (words (followed_from (single (get_or t i 0)) (drop (i + 1) t)))
-write_step buf place x t i h = rw (followed-step x t i h, words_cons, add-one place, add-two place, add-three place)
+    ≡ sets (sets buf place (words (record { activity = get_or t i 0; input = x; output = next_set t i } ∷ []))) (place + 3) (words (followed_from (single (get_or t i 0)) (drop (i + 1) t)))
+unfolding words
+write_step buf place x t i h = rw (followed-step x t i h, add-three place) refl
 
 -- the front of the buffer holds the sequence's words
 pub front_words : (buf : List ℕ) (s : List Binding) (n : ℕ) → length s ≡ n → 3 * n ≤ length buf → take (3 * n) (sets buf 0 (words s)) ≡ words s

@@ -1,5 +1,5 @@
 -- Refusal 9, position by position, and the chain of learn's refusals up to 11. Assumes nothing.
-use Prim.Native.Nat.{ℕ, ◌+◌, ◌*◌, ◌<◌}
+use Prim.Native.Nat.{ℕ, ◌+◌, ◌<◌}
 use mathlib.Core.Path.{◌≡◌, sym, ◌∙◌}
 use mathlib.Core.Bool.{true, false, ◌&&◌, beq, and-false}
 use mathlib.Core.List.{List, [], ◌∷◌}

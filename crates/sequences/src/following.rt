@@ -12,6 +12,7 @@ use crate::gaining::gain;
 use crate::limits::trace_limits;
 use net::{Net, Refusal, Refused, Returned, is_orderly};
 use obligations::SEQUENCE_WORDS;
+use obligations::sequence::{Binding, write_binding};
 use obligations::sets::single;
 use obligations::trace::is_shaped;
 
@@ -49,18 +50,19 @@ fn may_follow(net: &Net, trace: &[u32]) -> Result<(), Refused>
     Ok(())
 }
 
-// Writes the trace's sequence to the front of the buffer. By index, tried: of what is written through `chunks_exact_mut`, as through
-// any adapter of `iter_mut`, a proof learns nothing.
+// Writes the trace's sequence to the front of the buffer.
 fn write_followed(trace: &[u32], out: &mut [u32; SEQUENCE_WORDS])
     requires { TraceWithinLimits trace.now }
     ensures { out.new ≡ sets out.old 0 (words (followed trace.now)) }
 {
     let mut previous: u32 = 0;
     for (i, a) in trace.iter().enumerate() {
-        let at = 3 * i;
-        out[at] = *a;
-        out[at + 1] = previous;
-        out[at + 2] = next_set(trace, i);
+        let binding = Binding {
+            activity: *a,
+            input: previous,
+            output: next_set(trace, i),
+        };
+        write_binding(out, i, binding);
         previous = single(*a);
     }
 }

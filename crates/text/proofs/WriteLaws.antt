@@ -1,9 +1,10 @@
 -- Laws of writing: a store behind a run may come before it, and a copied part is a run of stores. Of texts that are appended one after
 -- the other specs/Sinks says it. Assumes nothing.
-use Rattle.std.proofs.Common.{ℕ, zero, suc, ◌+◌, ◌-◌, ◌≤◌, ◌<◌, ◌/◌, ◌≡◌, refl, sym, ap, ◌∙◌, List, [], ◌∷◌, length, set, take, drop, arith, zero-add, append_assoc, append-nil, drop_of_length-le}
-use Rattle.std.proofs.Math.Seq.{sets, set_comm, drop-drop}
+use Rattle.std.proofs.Common.{ℕ, zero, suc, ◌+◌, ◌-◌, ◌≤◌, ◌<◌, ◌/◌, ◌≡◌, refl, ap, ◌∙◌, List, [], ◌∷◌, length, set, arith, zero-add, append-nil, drop_of_length-le}
+use Rattle.std.proofs.Math.Seq.{sets, set_comm}
 use borrow.Rule.Slice.PartMut.{put_mid}
 use Rattle.std.proofs.lemmas.List.Edits.{sets-eq}
+use Rattle.obligations.proofs.StoreLaws.{put-sets}
 use Rattle.text.specs.Decimal.{digit, last_digits}
 use Rattle.text.specs.Writing.{Room, Appends}
 use Rattle.text.specs.Sinks.{sets-append}
@@ -20,11 +21,6 @@ sets-past l i (v ∷ vs) j a h =
     ∙ sets-past (set l i v) (suc i) vs j a (omega arith)
 
 -- ---- a copied part
-
--- a part that was copied over is a run of stores
-put-sets : (xs t : List ℕ) (at k : ℕ) → at + length t ≤ length xs → k ≡ length t → put_mid at k xs t ≡ sets xs at t
-put-sets xs t at k h e =
-    rw (e, drop-drop (length t) at xs) (sym (append_assoc (take at xs) t (drop (at + length t) xs))) ∙ sym (sets-eq t xs at h)
 
 pub appends_part : (o o' : Out) (t ys : List ℕ) (k : ℕ) → Room o t → ys ≡ t → k ≡ length t
     → o'.buf.ghost_name ≡ o.buf.ghost_name → o'.buf.now ≡ put_mid o.len k o.buf.now ys → o'.len ≡ o.len + length t → Appends o t o'

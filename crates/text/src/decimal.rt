@@ -3,7 +3,8 @@
 ghost use Rattle.std.specs.Prelude.{◌≡◌, length};
 ghost use Rattle.text.specs.Decimal.{parse_number, print_number, well_led};
 
-// The number that a field of a column of 32 bits says, unless it says none or one above the limit.
+// The number that a field of a column of 32 bits says, unless it says none or one above the limit. It is `read_wide` for such columns:
+// one function for both would ask of a type what its numbers are.
 pub fn read_number(field: &[u8], limit: u32) -> Option<u32>
     ensures { result ≡ parse_number limit field.now }
 {

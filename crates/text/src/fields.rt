@@ -14,7 +14,8 @@ pub struct Fields<'a> {
     separator: u8,
 }
 
-// The fields of s between the separators c.
+// The fields of s between the separators c. Not the `split` of slices: of its parts std promises how many there are and that none has a
+// separator, but not which bytes they have.
 pub fn split(s: &[u8], c: u8) -> Fields<'_>
     ensures { fields_left result ≡ split c s.now }
 {

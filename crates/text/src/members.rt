@@ -43,7 +43,8 @@ pub fn write_members<S: Sink>(out: &mut S, set: u32)
     }
 }
 
-// How many bytes the member list of a set takes. By itself, since here a caller has no room to show: a word can count the bytes of any.
+// How many bytes the member list of a set takes. `write_members` into a `Width`, for callers that have not shown that a word can count
+// them.
 pub fn members_width(set: u32) -> usize
     ensures { result ≡ length (print_members set) }
 {

@@ -21,7 +21,7 @@ pub fn union_of(masks: &[u32]) -> u32
 
 // For each activity the set of those that are named on its side.
 // By index, here and in `links`. Tried: by `array::from_fn` the proof didn't close, as it says nothing of what the closure still holds
-// at a later turn.
+// at a later turn. Over `rows.iter_mut().enumerate()` the index would have to be made an activity again, which is no plainer.
 pub fn named_rows(sides: &Sides) -> Rows
     requires { SidesFit sides.now }
     ensures { result ≡ named_rows sides.now.masks sides.now.lengths }
@@ -33,7 +33,7 @@ pub fn named_rows(sides: &Sides) -> Rows
     rows
 }
 
-// The members b of the set whose row has a.
+// The members b of the set such that a is in b's row.
 fn linked(set: u32, other: &Rows, a: u32) -> u32
     ensures { result ≡ linked set other.now a }
 {

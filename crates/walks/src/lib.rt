@@ -51,7 +51,7 @@ pub fn check_lent(net: &Net) -> Result<u32, Refused>
     told(survey_rows(&inputs, &outputs, net.start, net.end, all))
 }
 
-// What the check says of an orderly net in which this has been found.
+// What the check answers of an orderly net in which this has been found.
 fn told(found: Survey) -> Result<u32, Refused>
     ensures { check_means result ≡ surveyed found.lost found.unanswered (accepted found.arcs) }
 {
@@ -77,7 +77,7 @@ fn on_sides(named: &Rows, lengths: &[u32; LISTS]) -> u32
     sets::union(arcs::filled(lengths), arcs::union_of(named))
 }
 
-// What the check finds, where the rows have those named on each activity's sides, and the set has the net's activities.
+// What the check finds. The rows have for each activity those named on its sides of that kind, and `all` has the net's activities.
 fn survey_rows(inputs: &Rows, outputs: &Rows, start: u32, end: u32, all: u32) -> Survey
     requires ends_are_activities { (start < activities) × (end < activities) }
     ensures { RowSurvey inputs.now outputs.now start end all result }

@@ -11,7 +11,7 @@ loop-i-preserved c =
     let t = c.args.trace.now in
     let step = write_step l.out (3 * l.i) l.previous t l.i c.loop-i-test.true in
     let e : 3 * (l.i + 1) ≡ 3 * l.i + 3 = omega arith in
-    rw (e, c.next_set.ensures, c.single-previous.ensures) (sym step ∙ l.invariant)
+    rw (e, c.write_binding.ensures, c.next_set.ensures, c.single-previous.ensures) (sym step ∙ l.invariant)
 
 pub returns : goal.returns
 unfolding followed_from

@@ -1,5 +1,5 @@
 -- `read_number` meets its contract: what is within a limit of 32 bits has 32 bits, so that its conversion gives it. Assumes nothing.
-use Rattle.std.proofs.Common.{◌≡◌, ◌<◌, ◌^◌, sym, arith, rules, tests, ◌∙◌}
+use Rattle.std.proofs.Common.{◌<◌, ◌^◌, sym, arith, rules, tests}
 use Rattle.text.proofs.DecimalLaws.{parse_most}
 use Rattle.text.proofs.decimal.read_number.Goals as goal
 

@@ -166,7 +166,7 @@ outputs-returns-in-Found t c =
     let g = c.loop-y.invariant in
     let u = turns.undone_add _ _ c.add.ensures c.inputs-next.ensures.restores c.undo_add.ensures in
     turns.part_found (turns.turn_added (λ d. search_lent s.net.now s.trace.now (c.args.at + 1) d) (get_or s.trace.now c.args.at 0) c.args.x c.loop-y.y-index c.sets-sets.result.now _ c.loop-y-test.true c.add.ensures g) c.in-Found.is
-    (turns.pair_found s.net.now s.trace.now _ _ _ _ _ _ c.requires.position (turns.room_same g.out_same c.requires.room) c.in-Found.is c.inputs-next.ensures c.write.ensures u)
+    (turns.pair_found s.net.now s.trace.now _ _ _ _ _ _ c.requires.position (turns.room_same g.out_same c.requires.room) c.in-Found.is c.inputs-next.ensures c.write_binding.ensures u)
 
 pub outputs-returns-in-Spent : goal.outputs-returns-in-Spent
 outputs-returns-in-Spent t c =
