@@ -1,13 +1,15 @@
 -- The tests on the activities of a trace or a sequence, said of each position. Assumes nothing.
-use Rattle.std.proofs.Common.{ℕ, suc, ◌+◌, ◌-◌, ◌≤◌, ◌<◌, ◌≡◌, refl, sym, ap, ap₂, ◌∙◌, ◌↔◌, ◌⊎◌, inl, inr, ⊎_elim, Bool, true, false, ◌&&◌, arith, eq-eqb, ne_eqb, eqb-true, le-leb, leb-true, le-ltb, ltb-true, lt-ltb, eqb, leb, ltb}
-use mathlib.Core.Bool.{beq, and-false}
+use Rattle.std.proofs.Common.{ℕ, zero, suc, add-one, Option, option_map, ◌+◌, ◌≤◌, ◌<◌, ◌≡◌, refl, sym, ap, ap₂, ◌∙◌, ◌↔◌, ◌⊎◌, inl, inr, ⊎_elim, Bool, true, false, ◌&&◌, arith, eq-eqb, ne_eqb, eqb-true, le-leb, leb-true, ltb-true, lt-ltb, eqb, leb, ltb}
+use mathlib.Core.Bool.{beq, not}
 use borrow.Author.Tests.{lt-leb}
 use Rattle.obligations.specs.Limits.{activities}
-use Rattle.obligations.specs.Tests.{first_failing}
+use Rattle.obligations.specs.Tests.{first_from, first_failing, position_of}
 use Rattle.obligations.specs.Trace.{first_no_activity, ends_agree, shaped, Shaped}
-use Rattle.obligations.proofs.BoolLaws.{same_test, and_left, and_right, and_both, true_or_false, false-not-true}
+use Rattle.std.proofs.lemmas.Iterator.Adapters.{option_map_id}
+use Rattle.std.specs.List.{list_all, range_with_len, find}
+use Rattle.obligations.proofs.BoolLaws.{and_left, and_right, and_both, true_or_false, false-not-true}
 use Rattle.obligations.proofs.SetLaws.{lt_or_le}
-use Rattle.obligations.proofs.PositionLaws.{AllPass, pass_first, first_pass, fails_first, first_ext}
+use Rattle.obligations.proofs.PositionLaws.{AllPass, pass_first, first_pass, first_ext}
 
 -- two tests of equality agree exactly if one equation holds where the other does
 pub agree_iff : (a b c d : ℕ) → (beq (eqb a b) (eqb c d) ≡ true) ↔ ((a ≡ b) ↔ (c ≡ d))
@@ -44,58 +46,40 @@ module _ (start end n : ℕ) (activity_at : ℕ → ℕ) where
       (eq-eqb (first_failing n (ends_agree start end n activity_at)) 0 (pass_first n (ends_agree start end n activity_at) (λ i l.
       and_both ((agree_iff (activity_at i) start i 0).1 (f.start_first_only i l)) ((agree_iff (activity_at i) end (i + 1) n).1 (f.end_last_only i l)))))
 
--- ---- the loops' ways out
+-- ---- what the two walks answer
 
 -- the test of each position
 pub no_activity_tests : (n : ℕ) (activity_at : ℕ → ℕ) → first_no_activity n activity_at ≡ first_failing n (λ i. ltb (activity_at i) activities)
 unfolding first_no_activity
 no_activity_tests n activity_at = refl
 
-pub no_activity-at : (n : ℕ) (activity_at : ℕ → ℕ) (i : ℕ) → i < n → AllPass i (λ j. ltb (activity_at j) 32) → 31 < activity_at i → first_no_activity n activity_at ≡ suc i
-unfolding first_no_activity
-no_activity-at n activity_at i h all a =
-    fails_first n (λ j. ltb (activity_at j) 32) i (record { inside = h; before = all; fails = le-ltb (activity_at i) 32 a })
+-- what `find` finds, counted from 1
+found : (test : ℕ → Bool) (k n : ℕ) → option_map (λ i. i + 1) (find (λ i. not (test i)) (range_with_len k n)) ≡ position_of (first_from k n test)
+unfolding first_from position_of
+found test k zero = refl
+found test k (suc n) = ⊎_elim (λ t. rw t (rw (add-one k) (found test (suc k) n))) (λ f. rw f (rw (add-one k) refl)) (true_or_false (test k))
 
-pub activities_all : (n : ℕ) (activity_at : ℕ → ℕ) → AllPass n (λ j. ltb (activity_at j) 32) → first_no_activity n activity_at ≡ 0
-unfolding first_no_activity
-activities_all n activity_at all = pass_first n (λ j. ltb (activity_at j) 32) all
+pub found_first : (n : ℕ) (activity_at : ℕ → ℕ) (r : Option ℕ) → option_map (λ (i : ℕ). i) r ≡ find (λ i. not (ltb (activity_at i) 32)) (range_with_len 0 n) → option_map (λ i. i + 1) r ≡ position_of (first_no_activity n activity_at)
+unfolding first_no_activity first_failing
+found_first n activity_at r e = ap (option_map (λ i. i + 1)) (sym (option_map_id r) ∙ e) ∙ found (λ i. ltb (activity_at i) 32) 0 n
+
+-- `all` of the positions says whether the test fails at none
+all_none : (test : ℕ → Bool) (k n : ℕ) → list_all test (range_with_len k n) ≡ eqb (first_from k n test) 0
+unfolding first_from
+all_none test k zero = refl
+all_none test k (suc n) = ⊎_elim (λ t. rw t (rw (add-one k) (all_none test (suc k) n))) (λ f. rw f (sym (ne_eqb (suc k) 0 (λ e. omega arith)))) (true_or_false (test k))
+
+pub all_agree : (start end n : ℕ) (activity_at : ℕ → ℕ) → 2 ≤ n → list_all (ends_agree start end n activity_at) (range_with_len 0 n) ≡ shaped start end n activity_at
+unfolding shaped first_failing
+all_agree start end n activity_at h = rw (le-leb 2 n h) (all_none (ends_agree start end n activity_at) 0 n)
 
 -- one position more passes
 pub pass_more : (test : ℕ → Bool) (i : ℕ) → AllPass i test → test i ≡ true → AllPass (i + 1) test
 pass_more test i all t j l = ⊎_elim (λ m. all j m) (λ m. let e : j ≡ i = omega arith in rw e t) (lt_or_le j i)
 
-module _ (start end n : ℕ) (activity_at : ℕ → ℕ) where
-  pub too_short : n < 2 → shaped start end n activity_at ≡ false
-  unfolding shaped
-  too_short h = rw (lt-leb 2 n h)
-
-  pub ends_differ : (i : ℕ) → i < n → AllPass i (ends_agree start end n activity_at) → ends_agree start end n activity_at i ≡ false → shaped start end n activity_at ≡ false
-  unfolding shaped
-  ends_differ i h all f =
-      let e = fails_first n (ends_agree start end n activity_at) i (record { inside = h; before = all; fails = f }) in
-      ap (λ (t : Bool). leb 2 n && t) (ne_eqb (first_failing n (ends_agree start end n activity_at)) 0 (λ z. omega arith)) ∙ and-false (leb 2 n)
-
-  -- the position's own tests, as the code makes them
-  last_one : (i : ℕ) → 0 < n → eqb i (n - 1) ≡ eqb (i + 1) n
-  last_one i h = same_test (eqb i (n - 1)) (eqb (i + 1) n) (λ e. eq-eqb (i + 1) n (omega (arith, eqb-true i (n - 1) e))) (λ e. eq-eqb i (n - 1) (omega (arith, eqb-true (i + 1) n e)))
-
-  pub start_differs : (i : ℕ) → beq (eqb (activity_at i) start) (eqb i 0) ≡ false → ends_agree start end n activity_at i ≡ false
-  unfolding ends_agree
-  start_differs i f = rw f
-
-  pub end_differs : (i : ℕ) → 0 < n → beq (eqb (activity_at i) end) (eqb i (n - 1)) ≡ false → ends_agree start end n activity_at i ≡ false
-  unfolding ends_agree
-  end_differs i h f =
-      ap (λ (t : Bool). beq (eqb (activity_at i) start) (eqb i 0) && t) (ap (beq (eqb (activity_at i) end)) (sym (last_one i h)) ∙ f)
-      ∙ and-false (beq (eqb (activity_at i) start) (eqb i 0))
-
-  pub both_agree : (i : ℕ) → 0 < n → beq (eqb (activity_at i) start) (eqb i 0) ≡ true → beq (eqb (activity_at i) end) (eqb i (n - 1)) ≡ true → ends_agree start end n activity_at i ≡ true
-  unfolding ends_agree
-  both_agree i h t u = and_both t (ap (beq (eqb (activity_at i) end)) (sym (last_one i h)) ∙ u)
-
-  pub ends_agree_lem : 2 ≤ n → AllPass n (ends_agree start end n activity_at) → shaped start end n activity_at ≡ true
-  unfolding shaped
-  ends_agree_lem h all = rw (le-leb 2 n h, pass_first n (ends_agree start end n activity_at) all)
+pub too_short : (start end n : ℕ) (activity_at : ℕ → ℕ) → n < 2 → shaped start end n activity_at ≡ false
+unfolding shaped
+too_short start end n activity_at h = rw (lt-leb 2 n h)
 
 -- ---- the first number that is no activity
 

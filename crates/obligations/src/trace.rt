@@ -12,12 +12,9 @@ pub fn first_no_activity(words: &[u32], stride: usize, n: usize) -> Option<u32>
     requires { (0 < stride) × (stride * n ≤ length words.now) × (n < 2 ^ 32) }
     ensures { result ≡ position_of (first_no_activity n (λ i. get_or words.now (stride * i) 0)) }
 {
-    for i in 0..n {
-        if ACTIVITIES <= words[stride * i] {
-            return Some((i + 1) as u32);
-        }
-    }
-    None
+    (0..n)
+        .find(|i| ACTIVITIES <= words[stride * *i])
+        .map(|i| (i + 1) as u32)
 }
 
 // Whether there are at least two positions, and start and end stand first, last and nowhere else.
@@ -25,18 +22,9 @@ pub fn is_shaped(words: &[u32], stride: usize, n: usize, start: u32, end: u32) -
     requires { (0 < stride) × (stride * n ≤ length words.now) }
     ensures { result ≡ shaped start end n (λ i. get_or words.now (stride * i) 0) }
 {
-    if n < 2 {
-        return false;
-    }
-    let last = n - 1;
-    for i in 0..n {
-        let a = words[stride * i];
-        if (a == start) != (i == 0) {
-            return false;
-        }
-        if (a == end) != (i == last) {
-            return false;
-        }
-    }
-    true
+    n >= 2
+        && (0..n).all(|i| {
+            let a = words[stride * i];
+            (a == start) == (i == 0) && (a == end) == (i + 1 == n)
+        })
 }

@@ -3,7 +3,8 @@
 use Rattle.std.proofs.Common.{ℕ, zero, suc, ◌+◌, ◌≤◌, ◌<◌, ◌≡◌, refl, sym, ap, ap₂, ◌∙◌, ◌↔◌, Bool, true, false, not, cond, List, [], ◌∷◌, ◌++◌, zero-add, suc-add, add-one, arith, eq-eqb, eqb-true, ltb-true, ltb-false, eqb, ltb, length, get_or, take, drop, Some, None}
 use mathlib.Core.Bool.{false≢true}
 use Rattle.std.proofs.Math.Seq.{slice, slice-cons, drop-cons, take-nil}
-use Rattle.std.specs.List.{position_or_len, position}
+use Rattle.std.specs.List.{position_or_len, position, sum_by}
+use Rattle.std.proofs.lemmas.List.Sums.{sum_by-cons}
 use Rattle.obligations.specs.Tests.{indicator}
 use Rattle.obligations.proofs.BoolLaws.{and_left, and_right}
 use Rattle.text.specs.Bytes.{bytes_before, occurrences, same_bytes}
@@ -63,6 +64,18 @@ cut_none c s = rw (← before-position c s) (go (ltb (bytes_before c s) (length 
 pub occurrences-append : (c : ℕ) (s t : List ℕ) → occurrences c (s ++ t) ≡ occurrences c s + occurrences c t
 occurrences-append c [] t = sym (zero-add (occurrences c t))
 occurrences-append c (b ∷ s) t = rw (occurrences-append c s t) (omega arith)
+
+pub occurrences_sum : (c : ℕ) (s : List ℕ) → sum_by (λ b. indicator (eqb b c)) s ≡ occurrences c s
+occurrences_sum c [] = refl
+occurrences_sum c (b ∷ s) = sum_by-cons (λ b. indicator (eqb b c)) b s ∙ ap (λ (n : ℕ). indicator (eqb b c) + n) (occurrences_sum c s)
+
+pub occurrences_le : (c : ℕ) (s : List ℕ) → occurrences c s ≤ length s
+occurrences_le c [] = omega arith
+occurrences_le c (b ∷ s) = go (eqb b c) (occurrences_le c s)
+  where
+    go : (t : Bool) → occurrences c s ≤ length s → indicator t + occurrences c s ≤ suc (length s)
+    go true h = omega arith
+    go false h = omega arith
 
 -- a byte is not c where there is no c, and there is none after it
 pub occurrences_none_head : (c b : ℕ) (s : List ℕ) → occurrences c (b ∷ s) ≡ 0 → eqb b c ≡ false

@@ -4,15 +4,11 @@ ghost use Rattle.std.specs.Prelude.{◌≡◌, ◌==◌, MatchOption, length, po
 ghost use Rattle.text.specs.Bytes.{bytes_before, occurrences};
 ghost use Rattle.text.specs.Inner.{CutAt};
 
-// How often c stands in s. The sum is compiled to vector operations; `filter` and `count` take twice the time.
+// How often c stands in s. A sum, since that is compiled to vector operations.
 pub fn count_byte(s: &[u8], c: u8) -> usize
     ensures { result ≡ occurrences c s.now }
 {
-    let mut n: usize = 0;
-    for b in s {
-        n += usize::from(*b == c);
-    }
-    n
+    s.iter().map(|b| usize::from(*b == c)).sum()
 }
 
 // Where the first c stands in s.

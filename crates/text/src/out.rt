@@ -1,6 +1,6 @@
 // A buffer that is written from its front on.
 
-ghost use Rattle.std.specs.Prelude.{◌≡◌, ◌+◌, ◌≤◌, length, take};
+ghost use Rattle.std.specs.Prelude.{◌≡◌, ◌≤◌, length};
 ghost use Rattle.text.specs.Decimal.{last_digits, print_number};
 
 use super::decimal::number_width;
@@ -31,20 +31,6 @@ impl<'a> Out<'a> {
         ensures { result ≡ self.now.len }
     {
         self.len
-    }
-
-    // How many bytes there is room for.
-    pub fn room(&self) -> usize
-        ensures { self.now.len + result ≡ length self.now.buf.now }
-    {
-        self.buf.len() - self.len
-    }
-
-    // What is written.
-    pub fn written(&self) -> &[u8]
-        ensures { result.now ≡ take self.now.len self.now.buf.now }
-    {
-        &self.buf[..self.len]
     }
 
     // Writes t.

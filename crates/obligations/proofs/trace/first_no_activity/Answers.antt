@@ -1,12 +1,17 @@
--- `first_no_activity` meets its contract. The loop's invariant: each position before i has an activity. Assumes nothing.
-use Rattle.std.proofs.Common.{arith, add-one, sym}
-use Rattle.obligations.proofs.PositionLaws.{position_none, position_some}
-use Rattle.obligations.proofs.TraceLaws.{no_activity-at, activities_all}
+-- `first_no_activity` meets its contract: `find` looks for the first position that the definition's test fails at. Assumes nothing.
+use Rattle.std.proofs.Common.{rules, tests, arith, ◌≡◌, ℕ, get_or, ◌*◌, ◌+◌, refl, ◌∙◌, option_map, ltb}
+use mathlib.Core.Bool.{not}
+use Rattle.std.proofs.lemmas.Iterator.{YieldsList-from_range}
+use Rattle.std.proofs.lemmas.Iterator.Search.{find_from_yields_List}
+use Rattle.std.specs.List.{range_with_len, find}
+use Rattle.obligations.proofs.TraceLaws.{found_first}
 use Rattle.obligations.proofs.trace.first_no_activity.Goals as goal
 
-pub returns-then-words-stride-ge-ACTIVITIES : goal.returns-then-words-stride-ge-ACTIVITIES
-returns-then-words-stride-ge-ACTIVITIES c =
-    rw add-one (sym (position_some (no_activity-at _ _ _ c.loop-i-test.true c.loop-i.invariant c.if-words-stride-ge-ACTIVITIES.true)))
-
 pub returns : goal.returns
-returns c = sym (position_none (activities_all _ _ (λ k h. c.loop-i.invariant k (omega arith))))
+returns c =
+    let a = c.args in
+    let at : ℕ → ℕ = λ i. get_or a.words.now (a.stride * i) 0 in
+    let found : option_map (λ (x : ℕ). x) c.find.result ≡ find (λ i. not (ltb (at i) 32)) (range_with_len 0 a.n) =
+    find_from_yields_List (λ i. not (ltb (at i) 32)) _ _ c.find.result c.find.ensures.ran (YieldsList-from_range 0 a.n a.n refl (omega arith)) (λ x b q h. search (rules, tests)) in
+    let mapped : c.map.result ≡ option_map (λ i. i + 1) c.find.result = search (rules, tests) in
+    mapped ∙ found_first a.n at c.find.result found

@@ -1,24 +1,22 @@
--- `is_shaped` meets its contract. The loop's invariant: at each position before i start and end stand as they have to. Assumes nothing.
-use Rattle.std.proofs.Common.{arith, sym}
-use borrow.Author.Tests.{not-true, not-false}
-use Rattle.obligations.proofs.TraceLaws.{too_short, ends_differ, start_differs, end_differs, both_agree, ends_agree_lem, pass_more}
+-- `is_shaped` meets its contract: `all` asks of each position what the definition asks. Assumes nothing.
+use Rattle.std.proofs.Common.{rules, tests, arith, get_or, ◌*◌, refl, ◌∙◌, sym}
+use Rattle.std.proofs.lemmas.Iterator.{serves_from_Range, YieldsList-from_range}
+use Rattle.std.proofs.lemmas.Iterator.Search.{all_from_yields_List}
+use borrow.Author.Tests.{lt-leb}
+use Rattle.obligations.specs.Trace.{ends_agree}
+use Rattle.obligations.proofs.TraceLaws.{too_short, all_agree}
 use Rattle.obligations.proofs.trace.is_shaped.Goals as goal
 
-pub returns-then-n-lt2 : goal.returns-then-n-lt2
-returns-then-n-lt2 c = sym (too_short _ _ _ _ c.if-n-lt2.true)
+pub all-requires-clause-callable : goal.all-requires-clause-callable
+all-requires-clause-callable c = serves_from_Range (λ x q w. search (rules, tests)) (λ x l h. search (rules, tests))
 
-pub returns-then-a-start : goal.returns-then-a-start
-returns-then-a-start c =
-    sym (ends_differ _ _ _ _ c.loop-i.i c.loop-i-test.true c.loop-i.invariant (start_differs _ _ _ _ c.loop-i.i (not-true _ c.if-a-start.true)))
+pub returns-then-n-ge2 : goal.returns-then-n-ge2
+unfolding ends_agree
+returns-then-n-ge2 c =
+    let a = c.args in
+    all_from_yields_List (ends_agree a.start a.end a.n (λ i. get_or a.words.now (a.stride * i) 0)) _ _ c.all.result c.all.ensures.ran
+    (YieldsList-from_range 0 a.n a.n refl (omega arith)) (λ x b q h. search (rules, tests))
+    ∙ all_agree _ _ a.n _ c.if-n-ge2.true
 
-pub returns-then-a-end : goal.returns-then-a-end
-returns-then-a-end c =
-    sym (ends_differ _ _ _ _ c.loop-i.i c.loop-i-test.true c.loop-i.invariant (end_differs _ _ _ _ c.loop-i.i (omega arith) (not-true _ c.if-a-end.true)))
-
-pub loop-i-preserved : goal.loop-i-preserved
-loop-i-preserved c =
-    pass_more _ c.loop-i.i c.loop-i.invariant
-    (both_agree _ _ _ _ c.loop-i.i (omega arith) (not-false _ c.if-a-start.false) (not-false _ c.if-a-end.false))
-
-pub returns : goal.returns
-returns c = sym (ends_agree_lem _ _ _ _ (omega arith) (λ k h. c.loop-i.invariant k (omega arith)))
+pub returns-else-n-ge2 : goal.returns-else-n-ge2
+returns-else-n-ge2 c = lt-leb 2 _ c.if-n-ge2.false ∙ sym (too_short _ _ _ _ c.if-n-ge2.false)
