@@ -1,16 +1,19 @@
 -- Laws of one line: what each test of its fields decides. A line has as many fields as commas and one more. Assumes nothing.
 use Prim.Native.Nat.{ℕ, suc}
 use borrow.Author.Tests.{ne_eqb}
+use mathlib.Core.Logic.{⊎_elim}
 use mathlib.Core.Path.{◌≡◌, refl, ap, ◌∙◌}
 use mathlib.Core.Bool.{true, false, ◌&&◌, cond}
 use mathlib.Core.List.{List, [], ◌∷◌}
 use native.Mathlib.Omega.{arith}
-use lib.ListN.{length}
+use lib.ListN.{length, get_or}
 use Rattle.std.specs.Prelude.{◌==◌}
 use Rattle.text.specs.Bytes.{occurrences, same_bytes}
 use Rattle.text.specs.Fields.{comma, split}
 use Rattle.text.specs.Decimal.{is_empty, parse_number}
 use Rattle.text.specs.Members.{highest, parse_members}
+use Rattle.obligations.proofs.BoolLaws.{true_or_false}
+use Rattle.text.proofs.ByteLaws.{same_equal}
 use Rattle.text.proofs.FieldLaws.{length-split}
 use Rattle.std.specs.Prelude.{Result, Ok, Err, Option, Some, None}
 use Rattle.std.specs.Option.{ok_or}
@@ -111,17 +114,30 @@ row_parts s t a b m x e =
 
 -- ---- what the code's tests say
 
-pub side_in : (w : List ℕ) → true ≡ same_bytes w (side_word Input) → Ok Input ≡ read_side w
-unfolding read_side
-side_in w e = rw (← e)
+other_in : (w : List ℕ) → (length w ≡ 2 → get_or w 0 0 ≡ 105 → get_or w 1 0 ≡ 110 → ⊥) → same_bytes w (side_word Input) ≡ false
+other_in w d = ⊎_elim (λ t. absurd (let e = same_equal w (side_word Input) t in d (ap length e) (ap (λ (l : List ℕ). get_or l 0 0) e) (ap (λ (l : List ℕ). get_or l 1 0) e))) (λ f. f) (true_or_false (same_bytes w (side_word Input)))
 
-pub side_out : (w : List ℕ) → false ≡ same_bytes w (side_word Input) → true ≡ same_bytes w (side_word Output) → Ok Output ≡ read_side w
-unfolding read_side
-side_out w d e = rw (← d, ← e)
+other_out : (w : List ℕ) → (length w ≡ 3 → get_or w 0 0 ≡ 111 → get_or w 1 0 ≡ 117 → get_or w 2 0 ≡ 116 → ⊥) → same_bytes w (side_word Output) ≡ false
+other_out w d = ⊎_elim (λ t. absurd (let e = same_equal w (side_word Output) t in d (ap length e) (ap (λ (l : List ℕ). get_or l 0 0) e) (ap (λ (l : List ℕ). get_or l 1 0) e) (ap (λ (l : List ℕ). get_or l 2 0) e))) (λ f. f) (true_or_false (same_bytes w (side_word Output)))
 
-pub side_other : (w : List ℕ) → false ≡ same_bytes w (side_word Input) → false ≡ same_bytes w (side_word Output) → Err LineForm ≡ read_side w
+pub side_in : (w : List ℕ) → length w ≡ 2 → get_or w 0 0 ≡ 105 → get_or w 1 0 ≡ 110 → Ok Input ≡ read_side w
 unfolding read_side
-side_other w d e = rw (← d, ← e)
+side_in [] l a b = absurd (omega arith)
+side_in (x ∷ []) l a b = absurd (omega arith)
+side_in (x ∷ y ∷ []) l a b = rw (a, b) refl
+side_in (x ∷ y ∷ z ∷ w) l a b = absurd (omega arith)
+
+pub side_out : (w : List ℕ) → length w ≡ 3 → get_or w 0 0 ≡ 111 → get_or w 1 0 ≡ 117 → get_or w 2 0 ≡ 116 → Ok Output ≡ read_side w
+unfolding read_side
+side_out [] l a b d = absurd (omega arith)
+side_out (x ∷ []) l a b d = absurd (omega arith)
+side_out (x ∷ y ∷ []) l a b d = absurd (omega arith)
+side_out (x ∷ y ∷ z ∷ []) l a b d = rw (a, b, d) refl
+side_out (x ∷ y ∷ z ∷ u ∷ w) l a b d = absurd (omega arith)
+
+pub side_other : (w : List ℕ) → (length w ≡ 2 → get_or w 0 0 ≡ 105 → get_or w 1 0 ≡ 110 → ⊥) → (length w ≡ 3 → get_or w 0 0 ≡ 111 → get_or w 1 0 ≡ 117 → get_or w 2 0 ≡ 116 → ⊥) → Err LineForm ≡ read_side w
+unfolding read_side
+side_other w d u = rw (other_in w d, other_out w u)
 
 -- a number that could not be read
 pub not_read : (o : Option ℕ) (f r : Refusal) → o ≡ None → Err f ≡ ok_or o r → f ≡ r

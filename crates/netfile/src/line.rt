@@ -59,16 +59,13 @@ fn three_fields(line: &[u8]) -> Result<(&[u8], &[u8], &[u8]), Refusal>
     }
 }
 
-// The side that a word says. Two tests and no `match`. Tried: for the arm of all other words a proof has a case for each byte in which
-// a word may differ.
+// The side that a word says.
 fn side_of(word: &[u8]) -> Result<Side, Refusal>
     ensures { result ≡ read_side word.now }
 {
-    if word == b"in".as_slice() {
-        return Ok(Side::Input);
+    match word {
+        b"in" => Ok(Side::Input),
+        b"out" => Ok(Side::Output),
+        _ => Err(Refusal::LineForm),
     }
-    if word == b"out".as_slice() {
-        return Ok(Side::Output);
-    }
-    Err(Refusal::LineForm)
 }

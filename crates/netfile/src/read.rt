@@ -5,9 +5,8 @@ ghost use Rattle.obligations.specs.Limits.{activities};
 ghost use Rattle.text.specs.Lines.{lines};
 ghost use Rattle.net.specs.Sides.{uncounted};
 ghost use Rattle.net.specs.Orderly.{orderly};
-ghost use Rattle.net.specs.Refusals.{refusal_number};
 ghost use Rattle.netfile.specs.Limits.{net_bytes};
-ghost use Rattle.netfile.specs.NetFile.{Reads, refused_at, refused_with, read_as, read_rows, read_set_row, from_start, read_net};
+ghost use Rattle.netfile.specs.NetFile.{Reads, refused_with, read_as, read_rows, read_set_row, from_start, read_net};
 ghost use Rattle.netfile.specs.Steps.{EndsRead, on_line, PutRow};
 
 use crate::NET_BYTES;
@@ -25,16 +24,16 @@ pub fn read_net(text: &[u8]) -> Returned<()>
             answer: Ok(()),
             net,
         },
-        Err(refused) => refused_reading(refused.refusal, refused.place),
+        Err(refused) => refused_reading(refused),
     }
 }
 
 // A refused reading: the fresh net of 0 and 1.
-pub fn refused_reading(refusal: Refusal, place: u32) -> Returned<()>
-    ensures { Reads (refused_at (refusal_number refusal) place) result }
+pub fn refused_reading(refused: Refused) -> Returned<()>
+    ensures { Reads (refused_with refused) result }
 {
     Returned {
-        answer: Err(refusal.at(place)),
+        answer: Err(refused),
         net: fresh(0, 1).net,
     }
 }

@@ -49,7 +49,7 @@ pub fn read_checked(text: &[u8]) -> Returned<()>
     ensures { Reads (read_checked text.now) result }
 {
     if FILE_BYTES < text.len() {
-        return refused_reading(Refusal::OutsideLimits, 0);
+        return refused_reading(Refusal::OutsideLimits.at(0));
     }
     let read = read_net(text);
     if read.answer.is_err() {
@@ -57,7 +57,7 @@ pub fn read_checked(text: &[u8]) -> Returned<()>
     }
     match walks::check(read.net) {
         Ok(_) => read,
-        Err(refused) => refused_reading(refused.refusal, 0),
+        Err(refused) => refused_reading(refused.refusal.at(0)),
     }
 }
 

@@ -8,7 +8,7 @@ use Rattle.report.proofs.ReportLaws.{answer_err, answer_ok, checked_long, checke
 use Rattle.report.proofs.read_checked.Goals as goal
 
 pub returns-then-text-gt-FILE_BYTES : goal.returns-then-text-gt-FILE_BYTES
-returns-then-text-gt-FILE_BYTES c = rw (checked_long c.args.text.now c.if-text-gt-FILE_BYTES.true) c.refused_reading.ensures
+returns-then-text-gt-FILE_BYTES c = rw (checked_long c.args.text.now c.if-text-gt-FILE_BYTES.true) (rw c.at.ensures at c.refused_reading.ensures)
 
 pub returns-then-is_err : goal.returns-then-is_err
 returns-then-is_err c =
@@ -29,4 +29,4 @@ pub returns-in-Err : goal.returns-in-Err
 returns-in-Err c =
     let r = c.read_net-read in
     let k = ap (λ (y : Says). y.ok) (sym r.ensures.says) ∙ answer_ok r.result.answer (sym c.if-is_err.ensures.value) in
-    rw (checked_refused c.args.text.now c.if-text-gt-FILE_BYTES.false k (refusal_number c.in-Err.refused.refusal) c.in-Err.refused.place (sym (ap check_says r.ensures.gives) ∙ sym c.in-Err.ensures)) c.refused_reading-in-Err.ensures
+    rw (checked_refused c.args.text.now c.if-text-gt-FILE_BYTES.false k (refusal_number c.in-Err.refused.refusal) c.in-Err.refused.place (sym (ap check_says r.ensures.gives) ∙ sym c.in-Err.ensures)) (rw c.at-in-Err.ensures at c.refused_reading-in-Err.ensures)
