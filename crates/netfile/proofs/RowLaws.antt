@@ -139,6 +139,9 @@ pub side_other : (w : List ℕ) → (length w ≡ 2 → get_or w 0 0 ≡ 105 →
 unfolding read_side
 side_other w d u = rw (other_in w d, other_out w u)
 
+-- what a match of the two words comes to, byte for byte
+pub ruleset side_words = (side_in, side_out, side_other)
+
 -- a number that could not be read
 pub not_read : (o : Option ℕ) (f r : Refusal) → o ≡ None → Err f ≡ ok_or o r → f ≡ r
 not_read o f r q e = let z : ◌≡◌ {A = Result ℕ Refusal} (Err f) (Err r) = rw q at e in cc

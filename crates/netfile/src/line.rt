@@ -60,6 +60,7 @@ fn three_fields(line: &[u8]) -> Result<(&[u8], &[u8], &[u8]), Refusal>
 }
 
 // The side that a word says.
+#[tactic(auto, using(crate::proofs::RowLaws::side_words))]
 fn side_of(word: &[u8]) -> Result<Side, Refusal>
     ensures { result ≡ read_side word.now }
 {

@@ -1,77 +1,29 @@
 -- Laws of lines: the first line of a rest ends at its first CR LF and the others follow it, and lines that were written
 -- are read again, by induction on the text; and a line's number is one more than the lines before it. Assumes nothing.
-use Rattle.std.proofs.Common.{ℕ, suc, ◌+◌, ◌-◌, ◌≤◌, ◌<◌, ◌≡◌, refl, sym, ap, ◌∙◌, Bool, true, false, ◌&&◌, cond, Some, None, subst, eqb, ltb, ltb-true, ltb-false, List, [], ◌∷◌, ◌++◌, append_assoc, suc-add, arith, leb-true, leb-false, leb, length, get_or, take, drop, length-drop, drop_of_length-le}
+use Rattle.std.proofs.Common.{ℕ, suc, ◌+◌, ◌-◌, ◌≤◌, ◌<◌, ◌≡◌, refl, sym, ap, ◌∙◌, Bool, true, false, List, [], ◌∷◌, ◌++◌, append_assoc, suc-add, arith, leb-true, leb-false, leb, length, get_or, take, drop, length-drop, drop_of_length-le}
 use mathlib.Core.List.{Memᴰ}
 use Rattle.std.proofs.Math.Seq.{slice, drop-drop, drop-cons}
-use mathlib.Core.Bool.{and-true}
-use Rattle.std.specs.List.{position_or_len, position}
-use Rattle.std.specs.Slice.Iter.{windows_rest, windows_size, windows_steps}
-use Rattle.std.specs.declared.slice.Windows.{Windows}
-use Rattle.std.proofs.lemmas.Iterator.{YieldsList}
-use Rattle.std.proofs.lemmas.Iterator.Splits.{YieldsList-from_shown_while}
-use Rattle.text.specs.Bytes.{occurrences, same_bytes}
+use Rattle.text.specs.Bytes.{occurrences}
 use Rattle.text.specs.Lines.{cr, lf, starts_cr_lf, lines, unlines, HasLine, line_at}
 use Rattle.text.specs.Inner.{line_length, line_end, next_line}
 use Rattle.text.proofs.ByteLaws.{drop-step, take_drop, occurrences_none_head, occurrences_none_tail}
 
--- ---- a text's pairs of neighbours, among which a line's end is looked for
+-- ---- the end of a line
 
-abbrev pub pairs : List ℕ → List (List ℕ)
-pairs [] = []
-pairs (a ∷ []) = []
-pairs (a ∷ b ∷ s) = (a ∷ b ∷ []) ∷ pairs (b ∷ s)
+pub line-here : (s : List ℕ) → starts_cr_lf s ≡ true → line_length s ≡ 0
+line-here [] h = refl
+line-here (a ∷ s) h = rw h
 
--- whether a pair is CR LF
-abbrev pub is_end : List ℕ → Bool
-is_end w = same_bytes w (cr ∷ lf ∷ [])
+pub line_more : (s : List ℕ) (k : ℕ) → k < length s → starts_cr_lf (drop k s) ≡ false → line_length (drop k s) ≡ suc (line_length (drop (k + 1) s))
+line_more s k h = rw (drop-step s k h) (λ q. rw q)
 
-pairs_none : (s : List ℕ) → length s < 2 → length (pairs s) ≡ 0
-pairs_none [] h = refl
-pairs_none (a ∷ []) h = refl
-pairs_none (a ∷ b ∷ s) h = absurd (omega arith)
+-- one byte further, where none is ended here
+pub line_step : (s : List ℕ) (i : ℕ) (t : Bool) → i < length s → t ≡ starts_cr_lf (drop i s) → t ≡ false
+    → line_length s ≡ i + line_length (drop i s) → line_length s ≡ i + 1 + line_length (drop (i + 1) s)
+line_step s i t h e q l = omega (arith, l, line_more s i h (sym e ∙ q))
 
-pairs_some : (s : List ℕ) → 2 ≤ length s → pairs s ≡ take 2 s ∷ pairs (drop 1 s)
-pairs_some [] h = absurd (omega arith)
-pairs_some (a ∷ []) h = absurd (omega arith)
-pairs_some (a ∷ b ∷ s) h = refl
-
--- the windows of two bytes are the pairs
-pub pairs_yielded : {it : Windows ℕ} (s : List ℕ) → windows_rest it ≡ s → windows_size it ≡ 2 → YieldsList windows_steps (λ x. x.now) it (pairs s)
-pairs_yielded {it} s e z =
-    subst (λ (l : List ℕ). YieldsList windows_steps (λ x. x.now) it (pairs l)) e
-    (YieldsList-from_shown_while windows_steps (λ x. x.now) (λ i. pairs (windows_rest i)) (λ i. windows_size i ≡ 2)
-    (λ i j p w. pairs_none (windows_rest i) (omega (arith, p, w.1.0)))
-    (λ i x j p w. (w.0 ∙ p, pairs_some (windows_rest i) (omega (arith, p, w.1.0)) ∙ rw (w.1.1, p, w.1.2) refl))
-    it z)
-
-pair_places : (s : List ℕ) → (position_or_len is_end (pairs s) < length (pairs s) → line_length s ≡ position_or_len is_end (pairs s))
-    × (length (pairs s) ≤ position_or_len is_end (pairs s) → line_length s ≡ length s)
-pair_places [] = ((λ h. absurd (omega arith)), (λ h. refl))
-pair_places (a ∷ []) = ((λ h. absurd (omega arith)), (λ h. refl))
-pair_places (a ∷ b ∷ s) = go (starts_cr_lf (a ∷ b ∷ s)) refl (pair_places (b ∷ s))
-  where
-    go : (t : Bool) → starts_cr_lf (a ∷ b ∷ s) ≡ t
-        → (position_or_len is_end (pairs (b ∷ s)) < length (pairs (b ∷ s)) → line_length (b ∷ s) ≡ position_or_len is_end (pairs (b ∷ s)))
-        × (length (pairs (b ∷ s)) ≤ position_or_len is_end (pairs (b ∷ s)) → line_length (b ∷ s) ≡ length (b ∷ s))
-        → (position_or_len is_end (pairs (a ∷ b ∷ s)) < length (pairs (a ∷ b ∷ s)) → line_length (a ∷ b ∷ s) ≡ position_or_len is_end (pairs (a ∷ b ∷ s)))
-        × (length (pairs (a ∷ b ∷ s)) ≤ position_or_len is_end (pairs (a ∷ b ∷ s)) → line_length (a ∷ b ∷ s) ≡ length (a ∷ b ∷ s))
-    go true p ih = let q : is_end (a ∷ b ∷ []) ≡ true = ap (λ (t : Bool). eqb a cr && t) (and-true (eqb b lf)) ∙ p in rw (p, q) ((λ h. refl), (λ h. absurd (omega arith)))
-    go false p ih = let q : is_end (a ∷ b ∷ []) ≡ false = ap (λ (t : Bool). eqb a cr && t) (and-true (eqb b lf)) ∙ p in rw (p, q) ((λ h. omega (arith, ih.0 (omega arith))), (λ h. omega (arith, ih.1 (omega arith))))
-
--- where a pair is CR LF, and where none is
-pub pair_found : (s : List ℕ) (i : ℕ) → position is_end (pairs s) ≡ Some i → line_length s ≡ i
-pair_found s i = go (ltb (position_or_len is_end (pairs s)) (length (pairs s))) refl
-  where
-    go : (t : Bool) → ltb (position_or_len is_end (pairs s)) (length (pairs s)) ≡ t → cond t (Some (position_or_len is_end (pairs s))) None ≡ Some i → line_length s ≡ i
-    go true p q = let e : position_or_len is_end (pairs s) ≡ i = cc in (pair_places s).0 (ltb-true _ _ p) ∙ e
-    go false p q = absurd (cc)
-
-pub pair_none : (s : List ℕ) → position is_end (pairs s) ≡ None → line_length s ≡ length s
-pair_none s = go (ltb (position_or_len is_end (pairs s)) (length (pairs s))) refl
-  where
-    go : (t : Bool) → ltb (position_or_len is_end (pairs s)) (length (pairs s)) ≡ t → cond t (Some (position_or_len is_end (pairs s))) None ≡ None → line_length s ≡ length s
-    go true p q = absurd (cc)
-    go false p q = (pair_places s).1 (ltb-false _ _ p)
+pub line_none : (s : List ℕ) (k : ℕ) → length s ≤ k → line_length (drop k s) ≡ 0
+line_none s k h = rw (drop_of_length-le s h)
 
 -- ---- the lines from an index on
 
