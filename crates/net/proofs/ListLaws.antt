@@ -1,19 +1,22 @@
--- Laws of the tests of lists. For each test, what it says of a list from place i on (found or failed here, decided by
--- the rest, at the end), which is what a loop over the list needs; and what it says of each element. Assumes nothing.
+-- Laws of the tests of lists: for each test, what it says of each element, and of `listed` what it says of a list from place i on (found
+-- here, decided by the rest, at the end), which is what a loop over the list needs. Assumes nothing.
 use Prim.Native.Nat.{ℕ, zero, suc, ◌+◌, ◌-◌, ◌<◌, ◌≤◌}
 use native.Mathlib.Nat.{le_refl, not-suc-le-zero, sub-zero, zero-sub, suc-sub-suc}
 use native.Mathlib.Numerals.{add-one}
 use native.Mathlib.Omega.{arith}
 use mathlib.Core.Path.{◌≡◌, refl, sym, ap, ◌∙◌}
-use mathlib.Core.Bool.{true, false, ◌&&◌, ◌||◌, and_assoc}
+use mathlib.Core.Bool.{Bool, true, false, not, ◌&&◌, ◌||◌, and_assoc, and-true}
 use mathlib.Core.Logic.{◌⊎◌, inl, inr, ⊎_elim}
 use mathlib.Core.List.{List, [], ◌∷◌, ◌++◌}
 use lib.Bits.{bit_or, or_add_and, and_le_l, and_le_r}
 use lib.Dec.{ltb, eqb}
 use lib.ListN.{length, take, drop, get_or, length-take, length-drop, drop_of_length-le}
 use lib.Seq.{take_all, take-nil, take-append-add, length-take-le, get_or-take, get_or-drop, drop-cons}
-use borrow.Author.Tests.{ltb-true, eqb-true, lt-ltb, le-ltb, eq-eqb, ne_eqb}
-use Rattle.obligations.proofs.BoolLaws.{and_left, and_right, and_both, same_test, or_right, or_cases, false-not-true}
+use borrow.Author.Tests.{ltb-true, eqb-true, lt-ltb, eq-eqb, ne_eqb}
+use Rattle.std.proofs.Common.{Some, fold}
+use Rattle.std.specs.List.{slice_get}
+use Rattle.std.specs.Option.{option_eq}
+use Rattle.obligations.proofs.BoolLaws.{true_or_false, and_left, and_right, and_both, same_test, or_right, or_cases, false-not-true}
 use Rattle.net.specs.Lists.{listed, all_listed, ascends_above, zeros, blank}
 
 -- ---- parts of a list
@@ -81,18 +84,6 @@ at-all_listed (x ∷ xs) other h = rw (h x (rw (eq-eqb x x refl)), at-all_listed
 
 -- ---- ascends_above
 
-pub ascends_stop : (p i : ℕ) (l : List ℕ) → i < length l → get_or l i 0 ≤ p → ascends_above p (drop i l) ≡ false
-unfolding ascends_above
-ascends_stop p i l h e = rw (drop-cons l i 0 h, le-ltb p (get_or l i 0) e)
-
-pub ascends-next : (p i : ℕ) (l : List ℕ) → i < length l → p < get_or l i 0 → ascends_above p (drop i l) ≡ ascends_above (get_or l i 0) (drop (i + 1) l)
-unfolding ascends_above
-ascends-next p i l h e = rw (add-one, drop-cons l i 0 h, lt-ltb p (get_or l i 0) e)
-
-pub ascends-end : (p i : ℕ) (l : List ℕ) → length l ≤ i → ascends_above p (drop i l) ≡ true
-unfolding ascends_above
-ascends-end p i l h = rw (drop_of_length-le l h)
-
 pub ascends_head : (p x : ℕ) (xs : List ℕ) → ascends_above p (x ∷ xs) ≡ true → p < x
 unfolding ascends_above
 ascends_head p x xs h = ltb-true p x (and_left (ltb p x) (ascends_above x xs) h)
@@ -115,6 +106,19 @@ unfolding ascends_above
 at-ascends p [] f h = refl
 at-ascends p (x ∷ xs) f h = rw (lt-ltb p x (f (omega arith))) (at-ascends x xs (λ k. h 0 (omega arith)) (λ i k. h (suc i) (omega arith)))
 
+-- of a list whose elements are each below the next, its first element tells; one that isn't below the next tells too
+pub ascends-first : (l : List ℕ) → ((i : ℕ) → i + 1 < length l → get_or l i 0 < get_or l (i + 1) 0) → not (option_eq eqb (slice_get l 0) (Some 0)) ≡ ascends_above 0 l
+unfolding ascends_above
+ascends-first [] h = refl
+ascends-first (x ∷ xs) h = above x (at-ascends x xs (λ k. h 0 (omega arith)) (λ i k. rw add-one at (h (suc i) (omega arith))))
+  where
+    above : (x : ℕ) {rest : Bool} → rest ≡ true → not (eqb x 0) ≡ (ltb 0 x && rest)
+    above zero e = refl
+    above (suc x) e = rw (lt-ltb 0 (suc x) (omega arith), ne_eqb (suc x) 0 (omega arith)) (sym e)
+
+pub ascends_fails : (l : List ℕ) (i : ℕ) → i + 1 < length l → ltb (get_or l i 0) (get_or l (i + 1) 0) ≡ false → ascends_above 0 l ≡ false
+ascends_fails l i k h = ⊎_elim (λ t. absurd (false-not-true h (lt-ltb _ _ (ascends-at 0 l t i k)))) (λ f. f) (true_or_false (ascends_above 0 l))
+
 -- no element of an ascending list is at most its lower bound
 pub ascends-not-listed : (p q : ℕ) (l : List ℕ) → q ≤ p → ascends_above p l ≡ true → listed q l ≡ false
 unfolding listed
@@ -132,14 +136,11 @@ or_none a b =
     (λ t. let z = eqb-true (bit_or a b) 0 t in and_both (eq-eqb a 0 (omega (arith, z, or_add_and a b, and_le_r a b))) (eq-eqb b 0 (omega (arith, z, or_add_and a b, and_le_l a b))))
     (λ t. rw (eqb-true a 0 (and_left (eqb a 0) (eqb b 0) t), eqb-true b 0 (and_right (eqb a 0) (eqb b 0) t)))
 
--- one element more, where those before it have the bits b
-pub zeros-next : (b i : ℕ) (l : List ℕ) → i < length l → (eqb b 0 && zeros (drop i l)) ≡ (eqb (bit_or b (get_or l i 0)) 0 && zeros (drop (i + 1) l))
+-- what all elements have together, and have with b, is zero exactly if each is
+pub zeros-fold : (b : ℕ) (l : List ℕ) → eqb (fold bit_or b l) 0 ≡ (eqb b 0 && zeros l)
 unfolding zeros
-zeros-next b i l h = rw (add-one, drop-cons l i 0 h, or_none b (get_or l i 0)) (sym (and_assoc (eqb b 0) (eqb (get_or l i 0) 0) (zeros (drop (suc i) l))))
-
-pub zeros-end : (i : ℕ) (l : List ℕ) → length l ≤ i → zeros (drop i l) ≡ true
-unfolding zeros
-zeros-end i l h = rw (drop_of_length-le l h)
+zeros-fold b [] = sym (and-true (eqb b 0))
+zeros-fold b (x ∷ xs) = zeros-fold (bit_or b x) xs ∙ ap (λ (t : Bool). t && zeros xs) (or_none b x) ∙ and_assoc (eqb b 0) (eqb x 0) (zeros xs)
 
 pub zeros-at : (l : List ℕ) → zeros l ≡ true → (i : ℕ) → get_or l i 0 ≡ 0
 unfolding zeros

@@ -23,7 +23,7 @@ pub fn contained(net: Net, other: Net) -> Result<bool, Refused>
 }
 
 // Whether start and end of two orderly nets agree and each side's sets are among the other's.
-fn is_contained<'a>(net: &'a Net, other: &'a Net) -> bool
+fn is_contained(net: &Net, other: &Net) -> bool
     requires { (orderly net.now ≡ true) × (orderly other.now ≡ true) }
     ensures { result ≡ contained net.now other.now }
 {
@@ -34,7 +34,7 @@ fn is_contained<'a>(net: &'a Net, other: &'a Net) -> bool
 }
 
 // Whether each side of one kind has its sets among those of the other net's.
-fn sides_within<'a>(sides: &'a Sides, other: &'a Sides) -> bool
+fn sides_within(sides: &Sides, other: &Sides) -> bool
     requires { SidesFit sides.now × SidesFit other.now }
     ensures { result ≡ sides_within sides.now other.now }
 {

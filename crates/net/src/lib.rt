@@ -26,7 +26,7 @@ pub const SETS: u32 = 16;
 pub const LISTS: usize = ACTIVITIES as usize;
 
 // So many uses of a set are counted at most.
-pub const MOST_USES: u32 = 4294967295;
+pub const MOST_USES: u32 = u32::MAX;
 
 // The places of the sets in all lists of a kind of side.
 pub const PLACES: usize = (ACTIVITIES * SETS) as usize;

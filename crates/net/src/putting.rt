@@ -118,7 +118,8 @@ fn is_misplaced(empty: u32, a: u32, m: u32) -> bool
     if m == 0 { a != empty } else { a == empty }
 }
 
-// Puts x at a place, and moves those from there on, up to `to`, where a place is free.
+// Puts x at a place, and moves those from there on, up to `to`, where a place is free. A list and places in it, as `copy_within` takes
+// them.
 fn insert_at(list: &mut [u32], at: usize, to: usize, x: u32)
     requires { (at ≤ to) × (to < length list.old) }
     ensures { list.new ≡ splice list.old at (x ∷ take (to - at) (drop at list.old)) }

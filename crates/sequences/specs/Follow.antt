@@ -1,5 +1,5 @@
 -- Follow (01, "Follow"; 000, Definition 6): refusals 2, 3, 4, 7, 12 and 21 (02, (viii)) in this order.
-use Rattle.std.specs.Prelude.{ℕ, ◌≡◌, cond, List, [], ◌∷◌, length}
+use Rattle.std.specs.Prelude.{ℕ, ◌≡◌, cond, List, [], ◌∷◌, Result, length}
 use Rattle.obligations.specs.Sets.{single}
 use Rattle.obligations.specs.declared.sequence.Binding.{Binding}
 use Rattle.net.specs.Refusals.{Says, disorderly, wrong_ends}
@@ -12,6 +12,7 @@ use Rattle.net.specs.declared.Net.{Net}
 use Rattle.sequences.specs.Limits.{long_trace, trace_within_limits}
 use Rattle.sequences.specs.Gain.{not_fitting, not_countable, gained}
 use Rattle.sequences.specs.Learn.{learn_means, gain_says}
+use Rattle.net.specs.declared.refusal.Refused.{Refused}
 use Rattle.net.specs.declared.Returned.{Returned}
 
 -- the sequence of a trace: X is the activity before, empty at the first, and Y the activity after, empty at the last;
@@ -48,6 +49,10 @@ follow_says net trace = unless (orderly net) disorderly (trace_within_limits tra
 unfoldable pub follow_gives : Net → List ℕ → Net
 follow_gives net trace = cond (follow_says net trace).ok (gained net (followed trace)) net
 
-pub record FollowDone (net : Net) (trace : List ℕ) (r : Returned ℕ) : Type 0 where
-  pub says : learn_means r.answer ≡ follow_says net trace
-  pub gives : r.net ≡ follow_gives net trace
+-- what follow answers and leaves of the net
+pub record FollowLeft (net : Net) (trace : List ℕ) (answer : Result ℕ Refused) (net' : Net) : Type 0 where
+  pub says : learn_means answer ≡ follow_says net trace
+  pub gives : net' ≡ follow_gives net trace
+
+abbrev pub FollowDone : Net → List ℕ → Returned ℕ → Type 0
+FollowDone net trace r = FollowLeft net trace r.answer r.net

@@ -7,7 +7,6 @@ use Rattle.obligations.specs.declared.sequence.Binding.{Binding}
 use Rattle.net.specs.Refusals.{Says, refused, refusal_number}
 use Rattle.net.specs.Put.{side_says, put_masks, put_lengths}
 use Rattle.net.specs.declared.Net.{Net}
-use Rattle.net.specs.declared.Returned.{Returned}
 use Rattle.net.specs.declared.sides.Sides.{Sides}
 use Rattle.net.specs.declared.refusal.Refusal.{Refusal}
 use Rattle.net.specs.declared.refusal.Refusal.TheVariants.{FullSide}
@@ -49,9 +48,9 @@ pub record SetGained (sides : Sides) (empty a m : ℕ) (r : Result Added Refusal
   pub counts_are : (side_says sides.masks sides.lengths empty a m).ok ≡ true → sides'.counts ≡ used_counts sides.masks sides.lengths sides.counts empty a m
 
 -- refusals 12 and 21 alone, for a sequence that no other refusal holds of
-pub record GainDone (net : Net) (s : List Binding) (r : Returned ℕ) : Type 0 where
-  pub says : learn_means r.answer ≡ gain_says net s
-  pub gives : r.net ≡ cond (gain_says net s).ok (gained net s) net
+pub record GainLeft (net : Net) (s : List Binding) (answer : Result ℕ Refused) (net' : Net) : Type 0 where
+  pub says : learn_means answer ≡ gain_says net s
+  pub gives : net' ≡ cond (gain_says net s).ok (gained net s) net
 
 -- ---- follow
 

@@ -80,6 +80,10 @@ learn_says net ws = unless (orderly net) disorderly (within_limits ws (learn_pos
 unfoldable pub learn_gives : Net → List ℕ → Net
 learn_gives net ws = cond (learn_says net ws).ok (gained net (bindings ws)) net
 
-pub record LearnDone (net : Net) (ws : List ℕ) (r : Returned ℕ) : Type 0 where
-  pub says : learn_means r.answer ≡ learn_says net ws
-  pub gives : r.net ≡ learn_gives net ws
+-- what learn answers and leaves of the net
+pub record LearnLeft (net : Net) (ws : List ℕ) (answer : Result ℕ Refused) (net' : Net) : Type 0 where
+  pub says : learn_means answer ≡ learn_says net ws
+  pub gives : net' ≡ learn_gives net ws
+
+abbrev pub LearnDone : Net → List ℕ → Returned ℕ → Type 0
+LearnDone net ws r = LearnLeft net ws r.answer r.net

@@ -5,7 +5,7 @@ ghost use Rattle.std.proofs.lemmas.List.Edits.{sets};
 ghost use Rattle.obligations.specs.Sequence.{words};
 ghost use Rattle.net.specs.Orderly.{orderly};
 ghost use Rattle.sequences.specs.Learn.{gain_says};
-ghost use Rattle.sequences.specs.Follow.{followed, follow_says, FollowDone};
+ghost use Rattle.sequences.specs.Follow.{followed, follow_says, FollowDone, FollowLeft};
 ghost use Rattle.sequences.specs.Inner.{says_after, TraceWithinLimits, next_set};
 
 use crate::gaining::gain;
@@ -18,20 +18,21 @@ use obligations::trace::is_shaped;
 
 // Learns the sequence whose X is the activity before, empty at the first, and whose Y is the activity after, empty at the
 // last. A refused call returns the net given.
-pub fn follow(net: Net, trace: &[u32]) -> Returned<u32>
+pub fn follow(mut net: Net, trace: &[u32]) -> Returned<u32>
     ensures { FollowDone net trace.now result }
 {
-    match may_follow(&net, trace) {
-        Ok(()) => {
-            let mut sequence = [0u32; SEQUENCE_WORDS];
-            write_followed(trace, &mut sequence);
-            gain(net, &sequence[..3 * trace.len()])
-        }
-        Err(refused) => Returned {
-            answer: Err(refused),
-            net,
-        },
-    }
+    let answer = follow_in(&mut net, trace);
+    Returned { answer, net }
+}
+
+// Follow, on a net in place.
+fn follow_in(net: &mut Net, trace: &[u32]) -> Result<u32, Refused>
+    ensures { FollowLeft net.old trace.now result net.new }
+{
+    may_follow(net, trace)?;
+    let mut sequence = [0u32; SEQUENCE_WORDS];
+    write_followed(trace, &mut sequence);
+    gain(net, &sequence[..3 * trace.len()])
 }
 
 // The refusals of follow up to 7, which come before those of a sequence that doesn't fit or can't be counted.
@@ -72,8 +73,5 @@ fn next_set(trace: &[u32], i: usize) -> u32
     requires { i < length trace.now }
     ensures { result ≡ next_set trace.now i }
 {
-    match trace.get(i + 1) {
-        Some(a) => single(*a),
-        None => 0,
-    }
+    trace.get(i + 1).map_or(0, |a| single(*a))
 }

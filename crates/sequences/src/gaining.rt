@@ -9,41 +9,37 @@ ghost use Rattle.net.specs.Inner.{OrderlySides};
 ghost use Rattle.net.specs.Orderly.{orderly};
 ghost use Rattle.sequences.specs.Gain.{raised_at, topped_at, gained};
 ghost use Rattle.sequences.specs.Learn.{learn_means, gain_says};
-ghost use Rattle.sequences.specs.Inner.{WithinLimits, SetGained, GainDone};
+ghost use Rattle.sequences.specs.Inner.{WithinLimits, SetGained, GainLeft};
 
 use net::putting::put_counted;
-use net::{MOST_USES, Net, PLACES, Refusal, Refused, Returned, Sides};
+use net::{MOST_USES, Net, PLACES, Refusal, Refused, Sides};
 use obligations::sequence::bindings;
 
 // What a position's set does to its side, in numbers that add up over the positions: how many sets it adds, and how many counts are
-// at their top and can't be raised, each 0 or 1.
+// at their top and can't be raised, each 0 or 1. `topped` is a number, and no `bool`, because the definition counts
+// (`topped_counts`).
 #[derive(Clone, Copy)]
 struct Added {
     sets: u32,
     topped: u32,
 }
 
-// Puts the positions' sets on their sides and counts their uses, in place in a copy of the net, so that the net is copied once and
-// not for each position. Where a side would exceed its sets or a count its top the net given is returned.
-pub fn gain(net: Net, words: &[u32]) -> Returned<u32>
-    requires net_value { orderly net ≡ true }
+// Puts the positions' sets on their sides and counts their uses. Where a side would exceed its sets or a count its top the net is left
+// as it was given: it is copied once for that, and not for each position.
+pub fn gain(net: &mut Net, words: &[u32]) -> Result<u32, Refused>
+    requires net_value { orderly net.old ≡ true }
     requires within_limits { WithinLimits words.now }
-    ensures { GainDone net (bindings words.now) result }
+    ensures { GainLeft net.old (bindings words.now) result net.new }
 {
-    let mut grown = net;
-    match gain_in(&mut grown, words) {
-        Ok(new) => Returned {
-            answer: Ok(new),
-            net: grown,
-        },
-        Err(refused) => Returned {
-            answer: Err(refused),
-            net,
-        },
+    let given = *net;
+    let answer = gain_in(net, words);
+    if answer.is_err() {
+        *net = given;
     }
+    answer
 }
 
-// The same on a net in place, which a refusal leaves with some of the sets.
+// The same, but a refusal leaves the net with some of the sets.
 fn gain_in(net: &mut Net, words: &[u32]) -> Result<u32, Refused>
     requires net_value { orderly net.old ≡ true }
     requires within_limits { WithinLimits words.now }
@@ -65,8 +61,7 @@ fn gain_in(net: &mut Net, words: &[u32]) -> Result<u32, Refused>
     Ok(new)
 }
 
-// Puts m on activity a's side and counts its use. Whatever a put refuses is given as a full side: it refuses nothing else of the
-// sets of a sequence whose ends and empty sets are where they have to be.
+// Puts m on activity a's side and counts its use. A put that refuses is answered as a full side: misplaced sets were refused before.
 fn gain_set(sides: &mut Sides, empty: u32, a: u32, m: u32) -> Result<Added, Refusal>
     requires orderly { OrderlySides sides.old.masks sides.old.lengths empty }
     requires counts_long { length sides.old.counts ≡ places }

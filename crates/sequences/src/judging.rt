@@ -34,8 +34,8 @@ pub fn judge(net: Net, sequence: &[u32]) -> Result<u32, Refused>
 }
 
 // The first position whose X or Y isn't in the net. At each position its activity's input sets are searched for X and then its
-// output sets for Y; a search that doesn't find its set leaves the loop over positions, by the rule that is asked of this function:
-// two inner searches, left by a label, and no call of `contains`.
+// output sets for Y; a search that doesn't find its set leaves the loop over positions, as 01 names it: two inner searches, left by a
+// label, and no call of `contains`.
 fn first_missing(net: &Net, words: &[u32]) -> Option<u32>
     requires net_value { orderly net.now ≡ true }
     requires within_limits { WithinLimits words.now }

@@ -4,7 +4,7 @@ ghost use Rattle.std.specs.Prelude.{◌≡◌, true, IfOk, length};
 ghost use Rattle.obligations.specs.Sequence.{bindings};
 ghost use Rattle.obligations.specs.Tests.{position_of};
 ghost use Rattle.net.specs.Orderly.{orderly};
-ghost use Rattle.sequences.specs.Learn.{first_wrongly_empty, gain_says, learn_says, LearnDone};
+ghost use Rattle.sequences.specs.Learn.{first_wrongly_empty, gain_says, learn_says, LearnDone, LearnLeft};
 ghost use Rattle.sequences.specs.Inner.{says_after, WithinLimits};
 
 use crate::gaining::gain;
@@ -16,16 +16,19 @@ use obligations::trace::is_shaped;
 
 // Learns a sequence, from whoever proposes it: the net gains exactly its X and Y sets, and the answer is the number that
 // were new. A refused call returns the net given.
-pub fn learn(net: Net, sequence: &[u32]) -> Returned<u32>
+pub fn learn(mut net: Net, sequence: &[u32]) -> Returned<u32>
     ensures { LearnDone net sequence.now result }
 {
-    match may_learn(&net, sequence) {
-        Ok(()) => gain(net, sequence),
-        Err(refused) => Returned {
-            answer: Err(refused),
-            net,
-        },
-    }
+    let answer = learn_in(&mut net, sequence);
+    Returned { answer, net }
+}
+
+// Learn, on a net in place.
+fn learn_in(net: &mut Net, words: &[u32]) -> Result<u32, Refused>
+    ensures { LearnLeft net.old words.now result net.new }
+{
+    may_learn(net, words)?;
+    gain(net, words)
 }
 
 // The refusals of learn up to 11, which come before those of a sequence that doesn't fit or can't be counted.

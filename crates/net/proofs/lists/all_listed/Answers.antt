@@ -6,7 +6,7 @@ use Rattle.net.specs.Lists.{listed, all_listed}
 use Rattle.net.proofs.lists.all_listed.Goals as goal
 
 pub returns : goal.returns
-unfolding all_listed
+unfolding all_listed listed
 returns c =
     let a = c.args in
     all_from_yields_List (λ x. listed x a.other.now) _ _ c.all.result c.all.ensures.ran (YieldsList-from_slice a.list.now (search rules)) (λ x b q h. search rules)
