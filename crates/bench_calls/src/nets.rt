@@ -1,4 +1,5 @@
-// Calls on a net. The sequence is the papers' example: 003's Fig. 4, with its activities a to e as 0 to 4.
+// Calls on a net. None here and in `texts` is inlined, so that what one takes doesn't depend on the others' code. The sequence is the
+// papers' example: 003's Fig. 4, with its activities a to e as 0 to 4.
 
 use crate::REFUSED;
 use net::{Net, Side};
@@ -8,22 +9,26 @@ const SEQUENCE: [u32; 24] = [
 ];
 
 // Puts another set each time.
+#[inline(never)]
 pub fn put(net: &mut Net, i: u32) -> u64 {
     let done = net::put(*net, Side::Output, 1, i % 1000000 + 1);
     *net = done.net;
     done.answer.map_or(REFUSED, u64::from)
 }
 
+#[inline(never)]
 pub fn learn(net: &mut Net, _i: u32) -> u64 {
     let done = sequences::learn(*net, &SEQUENCE);
     *net = done.net;
     done.answer.map_or(REFUSED, u64::from)
 }
 
+#[inline(never)]
 pub fn check(net: &mut Net, _i: u32) -> u64 {
     walks::check(*net).map_or(REFUSED, u64::from)
 }
 
+#[inline(never)]
 pub fn judge(net: &mut Net, _i: u32) -> u64 {
     sequences::judge(*net, &SEQUENCE).map_or(REFUSED, u64::from)
 }

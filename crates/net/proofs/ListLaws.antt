@@ -1,11 +1,11 @@
--- Laws of the tests of lists: for each test, what it says of each element, and of `listed` what it says of a list from place i on (found
--- here, decided by the rest, at the end), which is what a loop over the list needs. Assumes nothing.
+-- Laws of the tests of lists: for each test, what it says of each element, and of `listed` and `zeros` what they say of a list from place
+-- i on (found here, decided by the rest, at the end), which is what a loop over the list needs. Assumes nothing.
 use Prim.Native.Nat.{ℕ, zero, suc, ◌+◌, ◌-◌, ◌<◌, ◌≤◌}
 use native.Mathlib.Nat.{le_refl, not-suc-le-zero, sub-zero, zero-sub, suc-sub-suc}
 use native.Mathlib.Numerals.{add-one}
 use native.Mathlib.Omega.{arith}
 use mathlib.Core.Path.{◌≡◌, refl, sym, ap, ◌∙◌}
-use mathlib.Core.Bool.{Bool, true, false, not, ◌&&◌, ◌||◌, and_assoc, and-true}
+use mathlib.Core.Bool.{Bool, true, false, not, ◌&&◌, ◌||◌, and_assoc}
 use mathlib.Core.Logic.{◌⊎◌, inl, inr, ⊎_elim}
 use mathlib.Core.List.{List, [], ◌∷◌, ◌++◌}
 use lib.Bits.{bit_or, or_add_and, and_le_l, and_le_r}
@@ -13,7 +13,7 @@ use lib.Dec.{ltb, eqb}
 use lib.ListN.{length, take, drop, get_or, length-take, length-drop, drop_of_length-le}
 use lib.Seq.{take_all, take-nil, take-append-add, length-take-le, get_or-take, get_or-drop, drop-cons}
 use borrow.Author.Tests.{ltb-true, eqb-true, lt-ltb, eq-eqb, ne_eqb}
-use Rattle.std.proofs.Common.{Some, fold}
+use Rattle.std.proofs.Common.{Some}
 use Rattle.std.specs.List.{slice_get}
 use Rattle.std.specs.Option.{option_eq}
 use Rattle.obligations.proofs.BoolLaws.{true_or_false, and_left, and_right, and_both, same_test, or_right, or_cases, false-not-true}
@@ -136,11 +136,14 @@ or_none a b =
     (λ t. let z = eqb-true (bit_or a b) 0 t in and_both (eq-eqb a 0 (omega (arith, z, or_add_and a b, and_le_r a b))) (eq-eqb b 0 (omega (arith, z, or_add_and a b, and_le_l a b))))
     (λ t. rw (eqb-true a 0 (and_left (eqb a 0) (eqb b 0) t), eqb-true b 0 (and_right (eqb a 0) (eqb b 0) t)))
 
--- what all elements have together, and have with b, is zero exactly if each is
-pub zeros-fold : (b : ℕ) (l : List ℕ) → eqb (fold bit_or b l) 0 ≡ (eqb b 0 && zeros l)
+-- one element more, where those before it have the bits b
+pub zeros-next : (b i : ℕ) (l : List ℕ) → i < length l → (eqb b 0 && zeros (drop i l)) ≡ (eqb (bit_or b (get_or l i 0)) 0 && zeros (drop (i + 1) l))
 unfolding zeros
-zeros-fold b [] = sym (and-true (eqb b 0))
-zeros-fold b (x ∷ xs) = zeros-fold (bit_or b x) xs ∙ ap (λ (t : Bool). t && zeros xs) (or_none b x) ∙ and_assoc (eqb b 0) (eqb x 0) (zeros xs)
+zeros-next b i l h = rw (add-one, drop-cons l i 0 h, or_none b (get_or l i 0)) (sym (and_assoc (eqb b 0) (eqb (get_or l i 0) 0) (zeros (drop (suc i) l))))
+
+pub zeros-end : (i : ℕ) (l : List ℕ) → length l ≤ i → zeros (drop i l) ≡ true
+unfolding zeros
+zeros-end i l h = rw (drop_of_length-le l h)
 
 pub zeros-at : (l : List ℕ) → zeros l ≡ true → (i : ℕ) → get_or l i 0 ≡ 0
 unfolding zeros

@@ -18,12 +18,16 @@ pub fn ascends(list: &[u32]) -> bool
     list.is_sorted_by(|a, b| a < b) && list.first() != Some(&0)
 }
 
-// Whether each element is zero. Nearly every list is, so the fold doesn't stop at one that isn't: the compiler then takes
-// several at a time.
+// Whether each element is zero. Nearly every list is, so the loop doesn't stop at one that isn't: the compiler then takes several at
+// a time. A loop and no `fold`, tried: with it the test of a record, which each call makes, takes a sixth more instructions.
 pub fn all_zero(list: &[u32]) -> bool
     ensures { result ≡ zeros list.now }
 {
-    list.iter().fold(0, |bits, m| bits | *m) == 0
+    let mut bits: u32 = 0;
+    for m in list {
+        bits |= *m;
+    }
+    bits == 0
 }
 
 // The place of m in an ascending list: behind the elements below it. By `position` and not by halves (`binary_search`): learn and
