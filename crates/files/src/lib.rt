@@ -3,8 +3,9 @@
 // written is said on standard error, with the system's reason. So what is answered is what there is, or whether it was written,
 // and no `Result`: no error is left to hand on.
 //
-// A file is named by bytes, of which any may be given: what is no text names no file. No contract of std says what a file holds, so
-// the contracts of the public functions give lengths only. What is read of a
+// A file is named by bytes: what is no text names no file, and `&str` would ask more of callers.
+//
+// No contract of std says what a file holds, so the contracts of the public functions give lengths only. What is read of a
 // reader whose bytes are known, and written to such a writer, is said in full by the functions that they call.
 
 #![tactic(auto)]

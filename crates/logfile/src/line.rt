@@ -24,7 +24,7 @@ pub fn row_line(number: u32, line: &[u8]) -> Result<(Row, &[u8]), Refused>
     }
     let row = Row {
         sessions,
-        // At most 96.
+        // At most 96. A cast, as the check proves that nothing is lost.
         length: length as u32,
     };
     Ok((row, trace))
@@ -64,7 +64,7 @@ fn count_entries(trace: &[u8]) -> Option<usize>
 }
 
 // Writes the entries of a trace, which were found to be activities, to the buffer's front. By index, tried: of what is written through
-// an adapter of `iter_mut` a proof learns nothing.
+// `iter_mut()` zipped with the fields a proof learns nothing.
 pub fn fill_trace(trace: &[u8], out: &mut [u32])
     requires { IsTrace trace.now (length out.old) }
     ensures { TraceFilled trace.now out.old out.new }

@@ -12,7 +12,7 @@ pub enum Answer<'a> {
     Words(&'a [u32]),
     // The text register. Its bytes may be no text, so they are written behind this line.
     Shown(&'a [u8]),
-    // A replay's outcomes, the first with the sequence. The crate `search` has them too, but this one doesn't build on it.
+    // A replay's outcomes, the first with its sequence. Those of `search` have none, and this crate doesn't build on it.
     Found { trials: u64, sequence: &'a [u32] },
     Failed { trials: u64 },
     Spent { trials: u64 },

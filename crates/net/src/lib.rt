@@ -31,7 +31,7 @@ pub const MOST_USES: u32 = u32::MAX;
 // The places of the sets in all lists of a kind of side.
 pub const PLACES: usize = (ACTIVITIES * SETS) as usize;
 
-// A net.
+// A net, passed to and returned from the calls by value, as 01 names it.
 #[derive(Clone, Copy, PartialEq, Eq)]
 pub struct Net {
     pub start: u32,

@@ -103,7 +103,7 @@ fn place_on(sides: &Sides, a: u32, m: u32) -> usize
     (SETS * a) as usize + lists::place_in(sides.sets(a), m)
 }
 
-// Whether m stands at a place, which is one of the side's if it is before `to`.
+// Whether m stands at a place, which is one of the side's if it is before `to`. A list and a place in it, as `insert_at` then has them.
 fn stands_at(masks: &[u32], at: usize, to: usize, m: u32) -> bool
     requires { to ≤ length masks.now }
     ensures { result ≡ (ltb at to && eqb (get_or masks.now at 0) m) }

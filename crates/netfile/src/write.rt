@@ -15,6 +15,7 @@ use text::out::Out;
 use text::sink::{Sink, Width};
 
 // Writes an orderly net to the front of the buffer, and returns the text's length, which has 32 bits: no net's text is longer.
+// A cast, as the check proves that nothing is lost.
 pub fn write_net(net: Net, out: &mut [u8]) -> Result<u32, Refused>
     ensures { NetWritten net out.old result out.new }
 {

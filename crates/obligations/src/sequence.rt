@@ -6,7 +6,7 @@ ghost use Rattle.std.proofs.lemmas.List.Edits.{sets};
 ghost use Rattle.obligations.specs.Limits.{positions};
 ghost use Rattle.obligations.specs.Sequence.{bindings, words};
 
-// An activity with its input set and its output set.
+// An activity with its input set and its output set. Calls are lent a sequence as words, as 01 names it.
 #[derive(Clone, Copy, PartialEq, Eq, Debug)]
 pub struct Binding {
     pub activity: u32,

@@ -1,4 +1,4 @@
-// Sets of activities, held as 32 bits: bit k for activity k. Every function takes every number; one that is above 31 is
+// Sets of activities, held as 32 bits, as 01 names them: bit k for activity k. Every function takes every number; one that is above 31 is
 // no activity and is in no set.
 
 ghost use Rattle.std.specs.Prelude.{◌≡◌};

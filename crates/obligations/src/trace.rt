@@ -7,7 +7,8 @@ ghost use Rattle.obligations.specs.Trace.{first_no_activity, shaped};
 
 use crate::ACTIVITIES;
 
-// The first position, counted from 1, with a number above 31. Positions have 32 bits, as n has.
+// The first position, counted from 1, with a number above 31. Positions have 32 bits, as n has: a
+// cast, as the check proves that nothing is lost.
 pub fn first_no_activity(words: &[u32], stride: usize, n: usize) -> Option<u32>
     requires { (0 < stride) × (stride * n ≤ length words.now) × (n < 2 ^ 32) }
     ensures { result ≡ position_of (first_no_activity n (λ i. get_or words.now (stride * i) 0)) }

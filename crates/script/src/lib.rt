@@ -38,7 +38,8 @@ pub fn run_script<R: Input + Print + Eprint>(rt: &R) {
     run_lines(rt, Script::new(bytes));
 }
 
-// Runs the lines one after the other. What no LF ends is no command, unless it is a comment.
+// Runs the lines one after the other. What no LF ends is no command, unless it is a comment. A loop, since the script is passed to each
+// command too and can't be walked beside that.
 fn run_lines<R: Print + Eprint>(rt: &R, mut script: Script) {
     let mut state = State::new();
     let mut output = Output::new(rt);

@@ -1,4 +1,4 @@
-// The search that goes back, over a lent net. The state is changed in place: one method takes for an input set, the other
+// The search that goes back, over a lent net: the recursion on the remaining trace that 01 names. The state is changed in place: one method takes for an input set, the other
 // adds for an output set, and each undoes its half of the step when the call behind it has returned. The buffer is written
 // on the way back from a sequence that was found, and at no other time.
 
@@ -48,7 +48,7 @@ impl Search<'_> {
         let width = self.net.outputs.sets(a).len() as u64;
         let mut rest = self.net.inputs.sets(a);
         let mut count = trials;
-        // No index is counted: what is walked is what is left of the sets, and a turn passes over as many as aren't possible.
+        // A `for` would be no plainer: a turn passes over as many sets as aren't possible, and what is left is walked on.
         loop {
             let (passed, left) = rest.split_at(next_possible(due, a, rest));
             let pairs = passed.len() as u64 * width;

@@ -60,6 +60,7 @@ fn first_wrongly_empty(words: &[u32], n: usize) -> Option<u32>
 {
     // In 32 bits, not by `enumerate`, and the last told by n, not by the words' length: of a count as wide as the length, or compared
     // with it, a compiler makes a division of the length by 3.
+    // A cast, as the check proves that nothing is lost.
     let last = n as u32;
     for (position, binding) in (1u32..).zip(bindings(words)) {
         let is_first = position == 1;

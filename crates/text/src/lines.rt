@@ -6,7 +6,7 @@ ghost use Rattle.text.specs.Inner.{line_length};
 ghost use Rattle.text.specs.Lines.{starts_cr_lf, lines};
 ghost use Rattle.text.specs.Reading.{lines_left};
 
-// The first line of s, and what is behind its CR LF. By a loop, tried: by `windows(2)` and `position`, which compare both bytes at each
+// The first line of s, and what is behind its CR LF. By a loop. Tried: by `windows(2)` and `position`, which compare both bytes at each
 // place, a log takes a twentieth longer to read.
 pub fn split_line(s: &[u8]) -> (&[u8], &[u8])
     ensures line { result.0.now ≡ take (line_length s.now) s.now }

@@ -43,8 +43,8 @@ pub fn write_members<S: Sink>(out: &mut S, set: u32)
     }
 }
 
-// How many bytes the member list of a set takes. `write_members` into a `Width`, for callers that have not shown that a word can count
-// them.
+// How many bytes the member list of a set takes. Beside `write_members` into a `Width`, since it asks nothing of its caller, and may not
+// come to: it was public before there was a `Width`.
 pub fn members_width(set: u32) -> usize
     ensures { result ≡ length (print_members set) }
 {

@@ -10,6 +10,7 @@ ghost use Rattle.std.specs.Prelude.{◌<◌, ◌≡◌, true};
 ghost use Rattle.obligations.specs.Limits.{activities};
 ghost use Rattle.obligations.specs.Sets.{union};
 ghost use Rattle.net.specs.Refusals.{accepted, means, refusal_number};
+ghost use Rattle.net.specs.Sides.{uncounted};
 ghost use Rattle.net.specs.Orderly.{orderly};
 ghost use Rattle.walks.specs.Links.{union_of, filled, RowSurvey};
 ghost use Rattle.walks.specs.Check.{check_means, none_in, surveyed, pass_says, check_says};
@@ -37,9 +38,10 @@ pub fn check(net: Net) -> Result<u32, Refused>
     check_lent(&net)
 }
 
-// The check of an orderly net that is lent, so that it isn't copied. Callers that have tested the record call this.
+// The check of a net that is lent, so that it isn't copied, and orderly but for its counts, which it doesn't read. Callers that have
+// tested the record call this.
 pub fn check_lent(net: &Net) -> Result<u32, Refused>
-    requires { orderly net.now ≡ true }
+    requires { orderly (uncounted net.now) ≡ true }
     ensures { check_means result ≡ pass_says net.now }
 {
     let inputs = arcs::named_rows(&net.inputs);

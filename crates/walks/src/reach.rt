@@ -8,7 +8,7 @@ use crate::arcs::Rows;
 use obligations::sets;
 
 // All activities that steps lead to from one, itself among them. Each is looked at once: what is seen and not yet done is
-// taken lowest first, and those one step on from it are seen. So the set that is walked grows on the way.
+// taken lowest first, and those one step on from it are seen. A `for` would be no plainer, since the set that is walked grows on the way.
 pub fn reach(next: &Rows, from: u32) -> u32
     requires is_activity { from < activities }
     ensures { result ≡ reach next.now from }

@@ -7,10 +7,14 @@ use Rattle.net.specs.Refusals.{accepted, refused, no_activity}
 use Rattle.net.specs.declared.sides.Side.TheVariants.{Input, Output}
 use Rattle.net.specs.Traces.{no_activity_in}
 use Rattle.net.proofs.OrderlyLaws.{orderly_arrays}
+use Rattle.net.proofs.UncountedLaws.{uncounted-orderly}
 use Rattle.walks.proofs.CheckLaws.{passing_rest, answer_clear, answer_refused}
 use Rattle.search.proofs.TraceLaws.{no_activity-ones, room_facts}
 use Rattle.search.proofs.ReplayLaws.{refuses_disorderly, refuses_room, refuses_activity, tests_net, refused_done, unrefused_done}
 use Rattle.search.proofs.replaying.replay.Goals as goal
+
+pub check_lent-requires : goal.check_lent-requires
+check_lent-requires c = uncounted-orderly c.args.net (sym c.if-not-is_orderly.ensures)
 
 pub returns-then-not-is_orderly : goal.returns-then-not-is_orderly
 returns-then-not-is_orderly c =

@@ -2,10 +2,14 @@
 use Rattle.std.proofs.Common.{sym, ◌∙◌}
 use Rattle.std.proofs.lemmas.Result.{err_from_is_err_and}
 use Rattle.obligations.specs.Sequence.{bindings}
+use Rattle.net.proofs.UncountedLaws.{uncounted-orderly}
 use Rattle.sequences.specs.Judge.{judge_says}
 use Rattle.sequences.proofs.WordLaws.{shaped-same}
 use Rattle.sequences.proofs.JudgeLaws.{judged_not_passing, judged_ends, judged_missing, judged_run}
 use Rattle.sequences.proofs.judging.judge.Goals as goal
+
+pub check_lent-requires : goal.check_lent-requires
+check_lent-requires c = uncounted-orderly c.args.net (sym c.if-not-is_orderly.ensures)
 
 pub returns-then-not-is_orderly : goal.returns-then-not-is_orderly
 unfolding judge_says
