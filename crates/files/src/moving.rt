@@ -31,8 +31,8 @@ pub fn read_whole<R: Read>(reader: &mut R, buf: &mut [u8]) -> io::Result<usize>
     Ok(done)
 }
 
-// Writes all bytes: a write that fails or takes nothing ends it. A loop, as what is left of the slice shrinks by what was taken. Not std's `write_all`, which tries an interrupted write as often as it
-// is interrupted.
+// Writes all bytes: a write that fails or takes nothing ends it. A loop, as what is left of the slice shrinks by what was taken. Not
+// std's `write_all`, which tries an interrupted write as often as it is interrupted.
 pub fn write_whole<W: Write>(writer: &mut W, bytes: &[u8]) -> io::Result<()>
     ensures { OnOk result (Appends (W.contents writer.old) (W.contents writer.new) bytes.now) }
 {

@@ -1,6 +1,6 @@
-// The search that goes back, over a lent net: the recursion on the remaining trace that 01 names. The state is changed in place: one method takes for an input set, the other
-// adds for an output set, and each undoes its half of the step when the call behind it has returned. The buffer is written
-// on the way back from a sequence that was found, and at no other time.
+// The search that goes back, over a lent net: the recursion on the remaining trace that 01 names. The state is changed in place: one
+// method takes for an input set, the other adds for an output set, and each undoes its half of the step when the call behind it has
+// returned. The buffer is written on the way back from a sequence that was found, and at no other time.
 
 ghost use Rattle.std.specs.Prelude.{◌≡◌, ◌+◌, ◌*◌, ◌<◌, ◌≤◌, ℕ, length, get_or};
 ghost use Rattle.std.specs.List.{position_or_len};

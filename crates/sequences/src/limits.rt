@@ -31,8 +31,8 @@ pub fn sequence_limits(words: &[u32]) -> Result<usize, Refused>
     }
 }
 
-// A third of k, rounded down. No division (02, (v)): for a browser a division stays one, and a loop that counts in threes may become one, so k is
-// multiplied by 171 / 512. That is above 1 / 3 by 1 / 1,536: below 512 less than a third in all, too little to reach the
+// A third of k, rounded down. No division (02, (v)): for a browser a division stays one, and a loop that counts in threes may become
+// one, so k is multiplied by 171 / 512. That is above 1 / 3 by 1 / 1,536: below 512 less than a third in all, too little to reach the
 // next whole number.
 fn third(k: usize) -> usize
     requires { k < 512 }
