@@ -22,7 +22,7 @@ use Rattle.net.specs.Sides.{uncounted, sets_on, counts_on}
 use Rattle.net.specs.Orderly.{ends_ok, block_ok, sides_ok, sized, orderly, counts_ok, kind_ok}
 use Rattle.net.specs.Fresh.{fresh_net, fresh_gives}
 use Rattle.net.specs.Examples.{F, travel}
-use Rattle.net.specs.Put.{misplaced, side_says, grows, with_sides, put_masks, put_lengths, put_counts}
+use Rattle.net.specs.Put.{misplaced, side_says, grows, with_sides, put_sides}
 use Rattle.net.specs.Contained.{sides_within, contained, contained_means, contained_says}
 use Rattle.net.specs.declared.sides.Side.TheVariants.{Input, Output}
 use Rattle.walks.specs.Below.{any_below, sum_below, with_if, those_below, those}
@@ -44,7 +44,7 @@ use Rattle.marked.specs.Marked.{Marked, MarkedPeak, session, detour, MarkedLonge
 
 -- the marked examples
 pub marked : Marked
-unfolding fresh_gives judge_says judge_positions run_says first_missing on_side_at learn_says learn_gives within_limits words_within bindings first_no_activity first_failing first_from learn_positions shaped ends_agree first_wrongly_empty empty_agree first_impossible possible_at possible run after taken added inputs outputs places_of members members_from keep all_due lowered raised all_zero fits takes_binding takes_put with_binding with_use gained topped topped_binding topped_use topped_at raised_at side_says misplaced listed insert insert_at place_in grows put_masks put_lengths put_counts total fresh_net orderly sized ends_ok sides_ok block_ok counts_ok kind_ok all_below ascends_above zeros trials_of later or_else behind trial_if trial try_outputs try_inputs at_end search_from search_of end_says replayed within_budget checked_says has_room replay_tests replay_says check_says lowest_member lost unanswered unanswered_on outside successors predecessors in_net on_sides reach rounds one_round rows rows_from arcs arc names named those those_below with_if sum_below number any_below union single member bit F fig4 answers
+unfolding fresh_gives judge_says judge_positions run_says first_missing on_side_at learn_says learn_gives within_limits words_within bindings first_no_activity first_failing first_from learn_positions shaped ends_agree first_wrongly_empty empty_agree first_impossible possible_at possible run after taken added inputs outputs places_of members members_from keep all_due lowered raised all_zero fits takes_binding takes_put with_binding with_use gained topped topped_binding topped_use topped_at raised_at side_says misplaced listed insert insert_at place_in grows put_sides total fresh_net orderly sized ends_ok sides_ok block_ok counts_ok kind_ok all_below ascends_above zeros trials_of later or_else behind trial_if trial try_outputs try_inputs at_end search_from search_of end_says replayed within_budget checked_says has_room replay_tests replay_says check_says lowest_member lost unanswered unanswered_on outside successors predecessors in_net on_sides reach rounds one_round rows rows_from arcs arc names named those those_below with_if sum_below number any_below union single member bit F fig4 answers
 marked = (refl, refl, refl, refl, refl, refl, refl, refl, refl, refl, refl, refl, refl)
 
 -- the peak is 4, and as the judge says it too
@@ -55,7 +55,7 @@ marked_peak = ((largest_is-peak (bindings trip) 4 (lit< tt)).0 refl, refl, refl)
 -- the longest session is followed and replayed, one that is longer is refused by 3, and sets of the last three positions decide
 -- a comparison
 pub marked_longest : MarkedLongest
-unfolding fresh_gives judge_says learn_says learn_gives within_limits words_within bindings words first_no_activity first_failing first_from shaped ends_agree possible after taken added inputs outputs places_of members members_from keep all_due lowered raised all_zero fits takes_binding takes_put with_binding with_use gained topped topped_binding topped_use topped_at raised_at side_says misplaced listed insert insert_at place_in grows put_masks put_lengths put_counts total fresh_net orderly sized ends_ok sides_ok block_ok counts_ok kind_ok all_below ascends_above zeros follow_says follow_gives trace_within_limits follow_positions followed_from trials_of later or_else behind trial_if trial try_outputs try_inputs at_end search_from search_of end_says replayed within_budget checked_says has_room replay_tests replay_says lowest_member lost unanswered unanswered_on outside successors predecessors in_net on_sides reach rounds one_round rows rows_from arc names named those those_below with_if number any_below union single member bit contained_says contained sides_within all_listed session detour grown answers
+unfolding fresh_gives judge_says learn_says learn_gives within_limits words_within bindings words first_no_activity first_failing first_from shaped ends_agree possible after taken added inputs outputs places_of members members_from keep all_due lowered raised all_zero fits takes_binding takes_put with_binding with_use gained topped topped_binding topped_use topped_at raised_at side_says misplaced listed insert insert_at place_in grows put_sides total fresh_net orderly sized ends_ok sides_ok block_ok counts_ok kind_ok all_below ascends_above zeros follow_says follow_gives trace_within_limits follow_positions followed_from trials_of later or_else behind trial_if trial try_outputs try_inputs at_end search_from search_of end_says replayed within_budget checked_says has_room replay_tests replay_says lowest_member lost unanswered unanswered_on outside successors predecessors in_net on_sides reach rounds one_round rows rows_from arc names named those those_below with_if number any_below union single member bit contained_says contained sides_within all_listed session detour grown answers
 marked_longest = (refl, refl, refl, refl, refl, refl, refl)
 
 -- F is what three sequences give, but for the counts
@@ -64,7 +64,7 @@ F-grown :
     (grown (fresh_net 0 3)
     (learn (0 ∷ 0 ∷ 2 ∷ 1 ∷ 1 ∷ 8 ∷ 3 ∷ 2 ∷ 0 ∷ []) ∷ follow (0 ∷ 2 ∷ 3 ∷ []) ∷ learn (0 ∷ 0 ∷ 6 ∷ 1 ∷ 1 ∷ 8 ∷ 2 ∷ 1 ∷ 8 ∷ 3 ∷ 6 ∷ 0 ∷ []) ∷ []))
     ≡ F
-unfolding learn_says learn_gives within_limits words_within bindings first_no_activity first_failing first_from learn_positions shaped ends_agree first_wrongly_empty empty_agree first_impossible possible_at possible run after taken added inputs outputs places_of members members_from keep all_due lowered raised all_zero fits takes_binding takes_put with_binding with_use gained topped topped_binding topped_use topped_at raised_at side_says misplaced listed insert insert_at place_in grows put_masks put_lengths put_counts total fresh_net orderly sized ends_ok sides_ok block_ok counts_ok kind_ok all_below ascends_above zeros follow_says follow_gives trace_within_limits follow_positions followed_from single F grown
+unfolding learn_says learn_gives within_limits words_within bindings first_no_activity first_failing first_from learn_positions shaped ends_agree first_wrongly_empty empty_agree first_impossible possible_at possible run after taken added inputs outputs places_of members members_from keep all_due lowered raised all_zero fits takes_binding takes_put with_binding with_use gained topped topped_binding topped_use topped_at raised_at side_says misplaced listed insert insert_at place_in grows put_sides total fresh_net orderly sized ends_ok sides_ok block_ok counts_ok kind_ok all_below ascends_above zeros follow_says follow_gives trace_within_limits follow_positions followed_from single F grown
 F-grown = refl
 
 -- and these are the counts after one more: of 0's outputs 2, 4 and 6, of 1's input 1, and of the empty sets; 0 and 3 occur four
@@ -78,14 +78,14 @@ F-counts :
     ∷ follow (0 ∷ 1 ∷ 3 ∷ [])
     ∷ []) in
     (counts_on net Output 0 ≡ 2 ∷ 1 ∷ 1 ∷ []) × (counts_on net Input 1 ≡ 3 ∷ []) × (counts_on net Output 2 ≡ 2 ∷ []) × (counts_on net Input 0 ≡ 4 ∷ []) × (counts_on net Output 3 ≡ 4 ∷ [])
-unfolding learn_says learn_gives within_limits words_within bindings first_no_activity first_failing first_from learn_positions shaped ends_agree first_wrongly_empty empty_agree first_impossible possible_at possible run after taken added inputs outputs places_of members members_from keep all_due lowered raised all_zero fits takes_binding takes_put with_binding with_use gained topped topped_binding topped_use topped_at raised_at side_says misplaced listed insert insert_at place_in grows put_masks put_lengths put_counts total fresh_net orderly sized ends_ok sides_ok block_ok counts_ok kind_ok all_below ascends_above zeros follow_says follow_gives trace_within_limits follow_positions followed_from single grown
+unfolding learn_says learn_gives within_limits words_within bindings first_no_activity first_failing first_from learn_positions shaped ends_agree first_wrongly_empty empty_agree first_impossible possible_at possible run after taken added inputs outputs places_of members members_from keep all_due lowered raised all_zero fits takes_binding takes_put with_binding with_use gained topped topped_binding topped_use topped_at raised_at side_says misplaced listed insert insert_at place_in grows put_sides total fresh_net orderly sized ends_ok sides_ok block_ok counts_ok kind_ok all_below ascends_above zeros follow_says follow_gives trace_within_limits follow_positions followed_from single grown
 F-counts = (refl, refl, refl, refl, refl)
 
 -- F in which 2 on the output side of 0 has the highest count: a session that uses it is refused by 21, and one that doesn't is not
 F-worn :
-    answers (with_sides F Output F.outputs.masks F.outputs.lengths (set F.outputs.counts 0 most_uses)) (follow (0 ∷ 1 ∷ 3 ∷ []) ∷ follow (0 ∷ 2 ∷ 3 ∷ []) ∷ [])
+    answers (with_sides F Output (record { masks = F.outputs.masks; lengths = F.outputs.lengths; counts = set F.outputs.counts 0 most_uses })) (follow (0 ∷ 1 ∷ 3 ∷ []) ∷ follow (0 ∷ 2 ∷ 3 ∷ []) ∷ [])
     ≡ map learn_means (Err (refused_at CountTooHigh 0) ∷ Ok 0 ∷ [])
-unfolding learn_says learn_gives within_limits words_within bindings first_no_activity first_failing first_from learn_positions shaped ends_agree first_wrongly_empty empty_agree first_impossible possible_at possible run after taken added inputs outputs places_of members members_from keep all_due lowered raised all_zero fits takes_binding takes_put with_binding with_use gained topped topped_binding topped_use topped_at raised_at side_says misplaced listed insert insert_at place_in grows put_masks put_lengths put_counts total fresh_net orderly sized ends_ok sides_ok block_ok counts_ok kind_ok all_below ascends_above zeros follow_says follow_gives trace_within_limits follow_positions followed_from single F answers
+unfolding learn_says learn_gives within_limits words_within bindings first_no_activity first_failing first_from learn_positions shaped ends_agree first_wrongly_empty empty_agree first_impossible possible_at possible run after taken added inputs outputs places_of members members_from keep all_due lowered raised all_zero fits takes_binding takes_put with_binding with_use gained topped topped_binding topped_use topped_at raised_at side_says misplaced listed insert insert_at place_in grows put_sides total fresh_net orderly sized ends_ok sides_ok block_ok counts_ok kind_ok all_below ascends_above zeros follow_says follow_gives trace_within_limits follow_positions followed_from single F answers
 F-worn = refl
 
 -- ---- passing nets that contain the grown net and that don't
@@ -108,7 +108,7 @@ nets :
     × (map check_says (net ∷ larger ∷ other ∷ []) ≡ map check_means (Ok 7 ∷ Ok 8 ∷ Ok 1 ∷ []))
     × (contained_says net larger ≡ contained_means (Ok true))
     × (contained_says net other ≡ contained_means (Ok false))
-unfolding learn_says learn_gives within_limits words_within bindings first_no_activity first_failing first_from learn_positions shaped ends_agree first_wrongly_empty empty_agree first_impossible possible_at possible run after taken added inputs outputs places_of members members_from keep all_due lowered raised all_zero fits takes_binding takes_put with_binding with_use gained topped topped_binding topped_use topped_at raised_at side_says misplaced listed insert insert_at place_in grows put_masks put_lengths put_counts total fresh_net orderly sized ends_ok sides_ok block_ok counts_ok kind_ok all_below ascends_above zeros follow_says follow_gives trace_within_limits follow_positions followed_from single check_says lowest_member lost unanswered unanswered_on outside successors predecessors in_net on_sides reach rounds one_round rows rows_from arcs arc names named those those_below with_if sum_below number any_below union member bit contained_says contained sides_within all_listed calls more others fig4 grown answers
+unfolding learn_says learn_gives within_limits words_within bindings first_no_activity first_failing first_from learn_positions shaped ends_agree first_wrongly_empty empty_agree first_impossible possible_at possible run after taken added inputs outputs places_of members members_from keep all_due lowered raised all_zero fits takes_binding takes_put with_binding with_use gained topped topped_binding topped_use topped_at raised_at side_says misplaced listed insert insert_at place_in grows put_sides total fresh_net orderly sized ends_ok sides_ok block_ok counts_ok kind_ok all_below ascends_above zeros follow_says follow_gives trace_within_limits follow_positions followed_from single check_says lowest_member lost unanswered unanswered_on outside successors predecessors in_net on_sides reach rounds one_round rows rows_from arcs arc names named those those_below with_if sum_below number any_below union member bit contained_says contained sides_within all_listed calls more others fig4 grown answers
 nets = (refl, refl, refl, refl)
 
 -- ---- a list in which a side is full
@@ -136,5 +136,5 @@ busy =
 full :
     (answers (fresh_net 0 31) busy ≡ map learn_means (replicate 16 (Ok 4) ++ (Err (refused_at FullSide 0) ∷ Err (refused_at OutsideLimits 0) ∷ Err (refused_at OutsideLimits 0) ∷ Err (refused_at NoActivity 2) ∷ Err (refused_at WronglyEmpty 1) ∷ Err (refused_at LeftOver 0) ∷ Ok 0 ∷ [])))
     × (sets_on (grown (fresh_net 0 31) busy) Output 0 ≡ 2 ∷ 4 ∷ 8 ∷ 16 ∷ 32 ∷ 64 ∷ 128 ∷ 256 ∷ 512 ∷ 1024 ∷ 2048 ∷ 4096 ∷ 8192 ∷ 16384 ∷ 32768 ∷ 65536 ∷ [])
-unfolding learn_says learn_gives within_limits words_within bindings first_no_activity first_failing first_from learn_positions shaped ends_agree first_wrongly_empty empty_agree first_impossible possible_at possible run after taken added inputs outputs places_of members members_from keep all_due lowered raised all_zero fits takes_binding takes_put with_binding with_use gained topped topped_binding topped_use topped_at raised_at side_says misplaced listed insert insert_at place_in grows put_masks put_lengths put_counts total fresh_net orderly sized ends_ok sides_ok block_ok counts_ok kind_ok all_below ascends_above zeros follow_says follow_gives trace_within_limits follow_positions followed_from single through busy grown answers
+unfolding learn_says learn_gives within_limits words_within bindings first_no_activity first_failing first_from learn_positions shaped ends_agree first_wrongly_empty empty_agree first_impossible possible_at possible run after taken added inputs outputs places_of members members_from keep all_due lowered raised all_zero fits takes_binding takes_put with_binding with_use gained topped topped_binding topped_use topped_at raised_at side_says misplaced listed insert insert_at place_in grows put_sides total fresh_net orderly sized ends_ok sides_ok block_ok counts_ok kind_ok all_below ascends_above zeros follow_says follow_gives trace_within_limits follow_positions followed_from single through busy grown answers
 full = (refl, refl)

@@ -3,12 +3,12 @@
 use Prim.Native.Nat.{ℕ, ◌+◌, ◌*◌, ◌<◌}
 use native.Mathlib.Decide.{ℕ_discrete as dec_eq}
 use native.Mathlib.Omega.{arith}
-use mathlib.Core.Path.{◌≡◌, refl}
+use mathlib.Core.Path.{◌≡◌, refl, ap}
 use mathlib.Core.Bool.{true, cond}
 use mathlib.Core.Logic.{◌↔◌, ⊎_elim}
-use mathlib.Core.List.{List, [], ◌∷◌}
+use mathlib.Core.List.{[], ◌∷◌}
 use lib.Dec.{eqb}
-use lib.ListN.{take, drop, get_or, set, length-set}
+use lib.ListN.{length, take, drop, get_or, set, length-set}
 use lib.Seq.{get_or-set_same, get_or-set_other}
 use borrow.Author.Tests.{eq-eqb, ne_eqb}
 use Rattle.obligations.specs.Limits.{activities}
@@ -16,11 +16,12 @@ use Rattle.obligations.specs.State.{total}
 use Rattle.obligations.proofs.BoolLaws.{true_or_false, false-not-true}
 use Rattle.net.specs.Limits.{sets, places}
 use Rattle.net.specs.Lists.{blank, ascends_above, zeros}
-use Rattle.net.specs.Sides.{block, uncounted, side_in, empty_at, sets_on, counts_on, count_of, OnSide}
+use Rattle.net.specs.Sides.{block, uncounted, sets_in, empty_at, sets_on, counts_on, count_of, OnSide}
 use Rattle.net.specs.Inner.{OrderlySides}
 use Rattle.net.specs.Orderly.{block_ok, ends_ok, sides_ok, orderly}
-use Rattle.net.specs.Fresh.{fresh_net, fresh_gives}
+use Rattle.net.specs.Fresh.{just_empty, fresh_net, fresh_gives}
 use Rattle.net.specs.declared.sides.Side.{Side}
+use Rattle.net.specs.declared.sides.Sides.{Sides}
 use Rattle.net.specs.declared.sides.Side.TheVariants.{Input, Output}
 use Rattle.net.proofs.BelowLaws.{below_true}
 use Rattle.net.proofs.ListLaws.{zeros-at, zeros_part, blank-zeros, listed_one, one_listed, none_listed}
@@ -54,7 +55,7 @@ fresh_ok empty a h = elim (dec_eq a empty) [
   | no d ↦ rw (ne_eqb a empty d, get_or-set_other (blank activities) empty a 1 0 d, blank-at activities a, blank-zeros_part sets (sets * a) places)
 ]
 
-fresh_arrays : (empty : ℕ) → empty < activities → OrderlySides (blank places) (set (blank activities) empty 1) empty
+fresh_arrays : (empty : ℕ) → empty < activities → OrderlySides (just_empty empty) empty
 unfolding sides_ok
 fresh_arrays empty h = record {
   masks_long = refl;
@@ -63,12 +64,13 @@ fresh_arrays empty h = record {
 }
 
 -- counts 0 are 0 past every side's sets
-pub blank_counts : (lengths : List ℕ) → OrderlyCounts (blank places) lengths
-blank_counts lengths = past_counts (blank places) lengths refl (λ a h. zero-past (blank places) a (get_or lengths a 0) refl h (λ i l k. blank-at places (sets * a + i)))
+pub blank_counts : (sides : Sides) → sides.counts ≡ blank places → OrderlyCounts sides
+blank_counts sides z =
+    past_counts sides (ap length z) (λ a h. rw z (zero-past (blank places) a (get_or sides.lengths a 0) refl h (λ i l k. blank-at places (sets * a + i))))
 
-fresh-side : (empty a : ℕ) → empty < activities → side_in (blank places) (set (blank activities) empty 1) a ≡ cond (eqb a empty) (0 ∷ []) []
+fresh-side : (empty a : ℕ) → empty < activities → sets_in (just_empty empty) a ≡ cond (eqb a empty) (0 ∷ []) []
 fresh-side empty a h = elim (dec_eq a empty) [
-  | yes e ↦ rw (eq-eqb a empty e) (side_just_empty (blank places) (set (blank activities) empty 1) empty (fresh_arrays empty h) a (omega arith) e)
+  | yes e ↦ rw (eq-eqb a empty e) (side_just_empty (just_empty empty) empty (fresh_arrays empty h) a (omega arith) e)
   | no d ↦ rw (ne_eqb a empty d, get_or-set_other (blank activities) empty a 1 0 d, blank-at activities a)
 ]
 
@@ -102,7 +104,7 @@ module _ (start end : ℕ) (h : ends_ok start end ≡ true) where
   unfolding fresh_net
   fresh_orderly =
       let f = ends_facts start end h in
-      parts_orderly (fresh_net start end) h (elim [ Input ↦ fresh_arrays start f.0 | Output ↦ fresh_arrays end f.1 ]) (elim [ Input ↦ blank_counts _ | Output ↦ blank_counts _ ])
+      parts_orderly (fresh_net start end) h (elim [ Input ↦ fresh_arrays start f.0 | Output ↦ fresh_arrays end f.1 ]) (elim [ Input ↦ blank_counts _ refl | Output ↦ blank_counts _ refl ])
 
 -- 0 and 1 are ends that fresh accepts
 pub zero_one : ends_ok 0 1 ≡ true

@@ -16,7 +16,7 @@ use Rattle.obligations.proofs.BoolLaws.{and_left, and_right, false-not-true}
 use Rattle.net.specs.Limits.{sets, places}
 use Rattle.net.specs.Lists.{listed, zeros, ascends_above}
 use Rattle.net.specs.Sides.{sides_of, masks_of, lengths_of, counts_of, empty_at, block, sets_on, OnSide}
-use Rattle.net.specs.Inner.{ArraysFit, OrderlySides}
+use Rattle.net.specs.Inner.{SidesFit, OrderlySides}
 use Rattle.net.specs.Orderly.{block_ok, ends_ok, sides_ok, counts_ok, kind_ok, sides_sized, sized, orderly, SideOrderly, Orderly}
 use Rattle.net.specs.declared.Net.{Net}
 use Rattle.net.specs.declared.sides.Side.{Side}
@@ -24,7 +24,7 @@ use Rattle.net.specs.declared.sides.Sides.{Sides}
 use Rattle.net.specs.declared.sides.Side.TheVariants.{Input, Output}
 use Rattle.net.proofs.BelowLaws.{below_true}
 use Rattle.net.proofs.ListLaws.{none_listed, ascends-at, at-ascends, ascends-not-listed, zeros-at, at_zeros}
-use Rattle.net.proofs.SideLaws.{OrderlyCounts, past-zero, zero-past, counts_past, past_counts, block_at, length-block, length-side, block-side, side-at, side_beyond, side_at_most, empty_side_ok, plain_side_ok, side_just_empty, sides_of_orderly}
+use Rattle.net.proofs.SideLaws.{OrderlyCounts, past-zero, zero-past, counts_past, past_counts, block_at, length-block, length-first, block-first, first-at, side_beyond, side_at_most, empty_side_ok, plain_side_ok, side_just_empty, sides_of_orderly}
 
 -- ---- the ends
 
@@ -67,13 +67,13 @@ module _ (net : Net) (h : orderly net ≡ true) where
   orderly_kind Input = and_left _ (kind_ok net.outputs net.end) orderly_both
   orderly_kind Output = and_right (kind_ok net.inputs net.start) _ orderly_both
 
-  orderly_oks : (side : Side) → sides_ok (masks_of net side) (lengths_of net side) (empty_at net side) ≡ true
+  orderly_oks : (side : Side) → sides_ok (sides_of net side) (empty_at net side) ≡ true
   unfolding kind_ok
-  orderly_oks side = and_left (sides_ok (masks_of net side) (lengths_of net side) (empty_at net side)) (counts_ok (counts_of net side) (lengths_of net side)) (orderly_kind side)
+  orderly_oks side = and_left (sides_ok (sides_of net side) (empty_at net side)) (counts_ok (sides_of net side)) (orderly_kind side)
 
-  counts_oks : (side : Side) → counts_ok (counts_of net side) (lengths_of net side) ≡ true
+  counts_oks : (side : Side) → counts_ok (sides_of net side) ≡ true
   unfolding kind_ok
-  counts_oks side = and_right (sides_ok (masks_of net side) (lengths_of net side) (empty_at net side)) (counts_ok (counts_of net side) (lengths_of net side)) (orderly_kind side)
+  counts_oks side = and_right (sides_ok (sides_of net side) (empty_at net side)) (counts_ok (sides_of net side)) (orderly_kind side)
 
   side_sized : (side : Side) → sides_sized (sides_of net side) ≡ true
   unfolding sized
@@ -92,21 +92,21 @@ module _ (net : Net) (h : orderly net ≡ true) where
   counts_long : (side : Side) → length (counts_of net side) ≡ places
   counts_long side = eqb-true _ _ (and_right (eqb (length (lengths_of net side)) activities) (eqb (length (counts_of net side)) places) (beside_masks side))
 
-  pub orderly_counts : (side : Side) → OrderlyCounts (counts_of net side) (lengths_of net side)
+  pub orderly_counts : (side : Side) → OrderlyCounts (sides_of net side)
   orderly_counts side = record { counts_long = counts_long side; all_zero = counts_oks side }
 
-  pub orderly_sides : (side : Side) → OrderlySides (masks_of net side) (lengths_of net side) (empty_at net side)
+  pub orderly_sides : (side : Side) → OrderlySides (sides_of net side) (empty_at net side)
   orderly_sides side = record { masks_long = masks_long side; lengths_long = lengths_long side; all_ok = orderly_oks side }
 
-  pub orderly_arrays : (side : Side) → ArraysFit (masks_of net side) (lengths_of net side)
-  orderly_arrays side = sides_of_orderly (masks_of net side) (lengths_of net side) (empty_at net side) (orderly_sides side)
+  pub orderly_arrays : (side : Side) → SidesFit (sides_of net side)
+  orderly_arrays side = sides_of_orderly (sides_of net side) (empty_at net side) (orderly_sides side)
 
   pub orderly_at_most : (side : Side) (a : ℕ) → a < activities → get_or (lengths_of net side) a 0 ≤ sets
-  orderly_at_most side a k = side_at_most (masks_of net side) (lengths_of net side) (empty_at net side) (orderly_sides side) a k
+  orderly_at_most side a k = side_at_most (sides_of net side) (empty_at net side) (orderly_sides side) a k
 
   -- a number above 31 has no sets
   pub sets_beyond : (side : Side) (a : ℕ) → activities ≤ a → sets_on net side a ≡ []
-  sets_beyond side a k = side_beyond (masks_of net side) (lengths_of net side) a (lengths_long side) k
+  sets_beyond side a k = side_beyond (sides_of net side) a (lengths_long side) k
 
   pub on_side_activity : (side : Side) (a m : ℕ) → OnSide net side a m → a < activities
   on_side_activity side a m k = elim (dec_lt a activities) [
@@ -115,10 +115,10 @@ module _ (net : Net) (h : orderly net ≡ true) where
   ]
 
   pub sets_length : (side : Side) (a : ℕ) → a < activities → length (sets_on net side a) ≡ get_or (lengths_of net side) a 0
-  sets_length side a k = length-side (masks_of net side) (lengths_of net side) a (masks_long side) k (orderly_at_most side a k)
+  sets_length side a k = length-first (masks_of net side) a _ (masks_long side) k (orderly_at_most side a k)
 
-pub parts_orderly : (net : Net) → ends_ok net.start net.end ≡ true → ((side : Side) → OrderlySides (masks_of net side) (lengths_of net side) (empty_at net side))
-    → ((side : Side) → OrderlyCounts (counts_of net side) (lengths_of net side)) → orderly net ≡ true
+pub parts_orderly : (net : Net) → ends_ok net.start net.end ≡ true → ((side : Side) → OrderlySides (sides_of net side) (empty_at net side))
+    → ((side : Side) → OrderlyCounts (sides_of net side)) → orderly net ≡ true
 unfolding orderly sized kind_ok
 parts_orderly net e o c =
     rw (
@@ -160,19 +160,19 @@ bad_inputs net e f = rw (e, f) (none_beside (sized net))
 -- ---- the test gives the facts
 
 module _ (net : Net) (o : orderly net ≡ true) (side : Side) (a : ℕ) (h : a < activities) where
-  sides_here : OrderlySides (masks_of net side) (lengths_of net side) (empty_at net side)
+  sides_here : OrderlySides (sides_of net side) (empty_at net side)
   sides_here = orderly_sides net o side
 
   counts_zero : (i : ℕ) → get_or (lengths_of net side) a 0 ≤ i → i < sets → get_or (counts_of net side) (sets * a + i) 0 ≡ 0
-  counts_zero i l k = past-zero (counts_of net side) a (get_or (lengths_of net side) a 0) i (counts_past (counts_of net side) (lengths_of net side) (orderly_counts net o side) a h) l k
+  counts_zero i l k = past-zero (counts_of net side) a (get_or (lengths_of net side) a 0) i (counts_past (sides_of net side) (orderly_counts net o side) a h) l k
 
   empty_facts : a ≡ empty_at net side → SideOrderly net side a
   empty_facts e =
-      let f = empty_side_ok (masks_of net side) (lengths_of net side) (empty_at net side) sides_here a h e in
+      let f = empty_side_ok (sides_of net side) (empty_at net side) sides_here a h e in
       record {
         at_most = omega (arith, f.0);
         ascending = λ i l. absurd (omega (arith, f.0));
-        just_empty = side_just_empty (masks_of net side) (lengths_of net side) (empty_at net side) sides_here a h;
+        just_empty = side_just_empty (sides_of net side) (empty_at net side) sides_here a h;
         never_empty = λ d. absurd (d e);
         unused_zero = λ i l k. sym (block_at (masks_of net side) a i k) ∙ zeros-at (block (masks_of net side) a) f.1 i;
         unused_uncounted = counts_zero;
@@ -180,7 +180,7 @@ module _ (net : Net) (o : orderly net ≡ true) (side : Side) (a : ℕ) (h : a <
 
   plain_facts : (a ≡ empty_at net side → ⊥) → SideOrderly net side a
   plain_facts d =
-      let f = plain_side_ok (masks_of net side) (lengths_of net side) (empty_at net side) sides_here a h d in
+      let f = plain_side_ok (sides_of net side) (empty_at net side) sides_here a h d in
       record {
         at_most = orderly_at_most net o side a h;
         ascending = λ i l. ascends-at 0 (sets_on net side a) f.0 i (omega (arith, sets_length net o side a h));
@@ -210,7 +210,7 @@ orderly_facts net h =
 
 module _ (net : Net) (side : Side) (a : ℕ) (h : a < activities) (long : length (masks_of net side) ≡ places) (f : SideOrderly net side a) where
   length_here : length (sets_on net side a) ≡ get_or (lengths_of net side) a 0
-  length_here = length-side (masks_of net side) (lengths_of net side) a long h f.at_most
+  length_here = length-first (masks_of net side) a _ long h f.at_most
 
   first_above : (l : List ℕ) → listed 0 l ≡ false → 0 < length l → 0 < get_or l 0 0
   unfolding listed
@@ -230,7 +230,7 @@ module _ (net : Net) (side : Side) (a : ℕ) (h : a < activities) (long : length
       one = sym length_here ∙ ap length (f.just_empty e)
 
       place : (i : ℕ) → i < sets → get_or (masks_of net side) (sets * a + i) 0 ≡ 0
-      place zero k = sym (side-at (masks_of net side) (lengths_of net side) a 0 (omega (arith, one))) ∙ ap (λ (l : List ℕ). get_or l 0 0) (f.just_empty e)
+      place zero k = sym (first-at (masks_of net side) a _ 0 (omega (arith, one))) ∙ ap (λ (l : List ℕ). get_or l 0 0) (f.just_empty e)
       place (suc i) k = f.unused_zero (suc i) (omega (arith, one)) k
 
   plain_zeros : zeros (drop (get_or (lengths_of net side) a 0) (block (masks_of net side) a)) ≡ true
@@ -240,7 +240,7 @@ module _ (net : Net) (side : Side) (a : ℕ) (h : a < activities) (long : length
   unfolding block_ok
   facts_block = elim (dec_eq a (empty_at net side)) [
     | yes e ↦ rw (eq-eqb a (empty_at net side) e, eq-eqb (get_or (lengths_of net side) a 0) 1 (sym length_here ∙ ap length (f.just_empty e)), empty_zeros e)
-    | no d ↦ rw (ne_eqb a (empty_at net side) d, le-leb (get_or (lengths_of net side) a 0) sets f.at_most, block-side (masks_of net side) (lengths_of net side) a f.at_most, facts_ascend d, plain_zeros)
+    | no d ↦ rw (ne_eqb a (empty_at net side) d, le-leb (get_or (lengths_of net side) a 0) sets f.at_most, block-first (masks_of net side) a _ f.at_most, facts_ascend d, plain_zeros)
   ]
 
 pub facts_orderly : (net : Net) → Orderly net → orderly net ≡ true
@@ -255,4 +255,4 @@ facts_orderly net f =
           below_true activities (λ a. block_ok (block (masks_of net side) a) (get_or (lengths_of net side) a 0) (eqb a (empty_at net side)))
           (λ a h. facts_block net side a h (f.masks_long side) (f.sides side a h));
     })
-    (λ side. past_counts (counts_of net side) (lengths_of net side) (f.counts_long side) (λ a h. zero-past (counts_of net side) a (get_or (lengths_of net side) a 0) (f.counts_long side) h (f.sides side a h).unused_uncounted))
+    (λ side. past_counts (sides_of net side) (f.counts_long side) (λ a h. zero-past (counts_of net side) a (get_or (lengths_of net side) a 0) (f.counts_long side) h (f.sides side a h).unused_uncounted))

@@ -17,7 +17,7 @@ use Rattle.net.specs.Limits.{sets}
 use Rattle.net.specs.Refusals.{Says, accepted, refused, bad_ends, disorderly, no_activity, misplaced_set, full_side}
 use Rattle.net.specs.Sentences.{AsListed}
 use Rattle.net.specs.Lists.{listed, distinct, AtMost}
-use Rattle.net.specs.Sides.{masks_of, lengths_of, empty_at, sets_on, OnSide}
+use Rattle.net.specs.Sides.{sides_of, lengths_of, empty_at, sets_on, OnSide}
 use Rattle.net.specs.Orderly.{Orderly, ends_ok, orderly}
 use Rattle.net.specs.Fresh.{BadEnds, fresh_refusals, fresh_says}
 use Rattle.net.specs.Put.{Exceeds, Misplaced, put_refusals, misplaced, side_says, put_says}
@@ -73,8 +73,8 @@ module _ (net : Net) (o : orderly net ≡ true) (side : Side) (a : ℕ) (h : a <
   -- a side holds no set twice
   pub side_distinct : distinct (sets_on net side a) ≡ true
   side_distinct = elim (dec_eq a (empty_at net side)) [
-    | yes e ↦ rw (side_just_empty (masks_of net side) (lengths_of net side) (empty_at net side) (orderly_sides net o side) a h e) (distinct_one 0)
-    | no d ↦ ascending-distinct 0 (sets_on net side a) (plain_side_ok (masks_of net side) (lengths_of net side) (empty_at net side) (orderly_sides net o side) a h d).0
+    | yes e ↦ rw (side_just_empty (sides_of net side) (empty_at net side) (orderly_sides net o side) a h e) (distinct_one 0)
+    | no d ↦ ascending-distinct 0 (sets_on net side a) (plain_side_ok (sides_of net side) (empty_at net side) (orderly_sides net o side) a h d).0
   ]
 
   -- how many sets a side has together with m

@@ -15,7 +15,7 @@ use Rattle.obligations.specs.Limits.{activities}
 use Rattle.obligations.proofs.BoolLaws.{true_or_false, or_cases}
 use Rattle.net.specs.Limits.{sets, places}
 use Rattle.net.specs.Lists.{listed, insert}
-use Rattle.net.specs.Sides.{masks_of, lengths_of, empty_at, SameButCounts, sets_on, OnSide}
+use Rattle.net.specs.Sides.{sides_of, masks_of, lengths_of, empty_at, SameButCounts, sets_on, OnSide}
 use Rattle.net.specs.Orderly.{orderly}
 use Rattle.net.specs.Put.{misplaced, side_says, put_says, put_gives}
 use Rattle.net.specs.Contained.{Contained}
@@ -24,7 +24,7 @@ use Rattle.net.specs.declared.sides.Side.{Side}
 use Rattle.net.specs.declared.sides.Side.TheVariants.{Input, Output}
 use Rattle.net.proofs.ListLaws.{listed_one}
 use Rattle.net.proofs.InsertLaws.{length-insert, listed-insert, ascends-insert}
-use Rattle.net.proofs.SideLaws.{side-at, side_just_empty, plain_side_ok}
+use Rattle.net.proofs.SideLaws.{first-at, side_just_empty, plain_side_ok}
 use Rattle.net.proofs.OrderlyLaws.{orderly_sides, orderly_side, orderly_at_most, sets_length}
 use Rattle.net.proofs.PutLaws.{put_says_side, put_start, put_end, put_on_side}
 use Rattle.net.proofs.AscendingLaws.{ascending-within, ascending-same}
@@ -37,7 +37,7 @@ same_arrays x y s e m l = rw (s, e, m Input, m Output, l Input, l Output)
 -- each place of an orderly net's array is the side's, or zero past it
 place_at : (net : Net) → orderly net ≡ true → (side : Side) (a k : ℕ) → a < activities → k < sets → get_or (masks_of net side) (sets * a + k) 0 ≡ get_or (sets_on net side a) k 0
 place_at net o side a k h u = elim (dec_lt k (get_or (lengths_of net side) a 0)) [
-  | yes l ↦ sym (side-at (masks_of net side) (lengths_of net side) a k l)
+  | yes l ↦ sym (first-at (masks_of net side) a _ k l)
   | no l ↦ (orderly_side net o side a h).unused_zero k (omega arith) u ∙ sym (get_or-eq_default (sets_on net side a) 0 {n = k} (omega (arith, sets_length net o side a h)))
 ]
 
@@ -79,11 +79,11 @@ contained-same x y o q f g = same_sides x y o q same f.same_start f.same_end
         let s = orderly_sides x o side in
         let t = orderly_sides y q side in
         elim (dec_eq a (empty_at x side)) [
-          | yes e ↦ side_just_empty (masks_of x side) (lengths_of x side) (empty_at x side) s a h e ∙ sym (side_just_empty (masks_of y side) (lengths_of y side) (empty_at y side) t a h (e ∙ same_empty x y side f.same_start f.same_end))
+          | yes e ↦ side_just_empty (sides_of x side) (empty_at x side) s a h e ∙ sym (side_just_empty (sides_of y side) (empty_at y side) t a h (e ∙ same_empty x y side f.same_start f.same_end))
           | no d ↦
               ascending-same 0 0 (sets_on x side a) (sets_on y side a)
-              (plain_side_ok (masks_of x side) (lengths_of x side) (empty_at x side) s a h d).0
-              (plain_side_ok (masks_of y side) (lengths_of y side) (empty_at y side) t a h (λ e. d (e ∙ sym (same_empty x y side f.same_start f.same_end)))).0
+              (plain_side_ok (sides_of x side) (empty_at x side) s a h d).0
+              (plain_side_ok (sides_of y side) (empty_at y side) t a h (λ e. d (e ∙ sym (same_empty x y side f.same_start f.same_end)))).0
               (λ m i. f.among side a m h i)
               (λ m i. g.among side a m h i)
         ]
@@ -94,13 +94,13 @@ module _ (net whole : Net) (o : orderly net ≡ true) (q : orderly whole ≡ tru
   -- its side is not one that holds just the empty set
   plain : a ≡ empty_at net side → ⊥
   plain e =
-      let z = side_just_empty (masks_of whole side) (lengths_of whole side) (empty_at whole side) (orderly_sides whole q side) a h (e ∙ same_empty net whole side f.same_start f.same_end) in
+      let z = side_just_empty (sides_of whole side) (empty_at whole side) (orderly_sides whole q side) a h (e ∙ same_empty net whole side f.same_start f.same_end) in
       let n = listed_one m 0 (rw z at on) in omega arith
 
   not_full : listed m (sets_on net side a) ≡ false → get_or (lengths_of net side) a 0 ≡ sets → ⊥
   not_full new full =
-      let s = (plain_side_ok (masks_of net side) (lengths_of net side) (empty_at net side) (orderly_sides net o side) a h plain).0 in
-      let t = (plain_side_ok (masks_of whole side) (lengths_of whole side) (empty_at whole side) (orderly_sides whole q side) a h (λ e. plain (e ∙ sym (same_empty net whole side f.same_start f.same_end)))).0 in
+      let s = (plain_side_ok (sides_of net side) (empty_at net side) (orderly_sides net o side) a h plain).0 in
+      let t = (plain_side_ok (sides_of whole side) (empty_at whole side) (orderly_sides whole q side) a h (λ e. plain (e ∙ sym (same_empty net whole side f.same_start f.same_end)))).0 in
       let n = ascending-within 0 0 (insert m (sets_on net side a)) (sets_on whole side a) (ascends-insert 0 m (sets_on net side a) k s new) t among in
       omega (arith, length-insert m (sets_on net side a), sets_length net o side a h, sets_length whole q side a h, orderly_at_most whole q side a h)
     where

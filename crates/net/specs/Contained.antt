@@ -6,7 +6,7 @@ use Rattle.net.specs.Refusals.{Says, means, accepted, disorderly}
 use Rattle.net.specs.Sentences.{Sentence, first}
 use Rattle.net.specs.Chains.{unless_at}
 use Rattle.net.specs.Lists.{all_below, all_listed}
-use Rattle.net.specs.Sides.{side_in, OnSide}
+use Rattle.net.specs.Sides.{sets_in, OnSide}
 use Rattle.net.specs.Orderly.{Orderly, orderly}
 use Rattle.net.specs.declared.Net.{Net}
 use Rattle.net.specs.declared.sides.Side.{Side}
@@ -19,7 +19,7 @@ contained_means answer = means indicator answer
 
 -- each side of one kind has its sets among the other net's
 unfoldable pub sides_within : Sides → Sides → Bool
-sides_within sides other = all_below activities (λ a. all_listed (side_in sides.masks sides.lengths a) (side_in other.masks other.lengths a))
+sides_within sides other = all_below activities (λ a. all_listed (sets_in sides a) (sets_in other a))
 
 unfoldable pub contained : Net → Net → Bool
 contained net other =

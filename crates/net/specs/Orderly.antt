@@ -26,17 +26,17 @@ empty_block b n = eqb n 1 && zeros b
 unfoldable pub block_ok : List ℕ → ℕ → Bool → Bool
 block_ok b n only = cond only (empty_block b n) (plain_block b n)
 
--- every side of one kind is as it has to be, where the side of `empty` has to hold just the empty set
-unfoldable pub sides_ok : List ℕ → List ℕ → ℕ → Bool
-sides_ok masks lengths empty = all_below activities (λ a. block_ok (block masks a) (get_or lengths a 0) (eqb a empty))
+-- every side of one kind is as it has to be, but for its counts, where the side of `empty` has to hold just the empty set
+unfoldable pub sides_ok : Sides → ℕ → Bool
+sides_ok sides empty = all_below activities (λ a. block_ok (block sides.masks a) (get_or sides.lengths a 0) (eqb a empty))
 
 -- the places past a side's sets have count 0, on every side of one kind (02, (viii))
-unfoldable pub counts_ok : List ℕ → List ℕ → Bool
-counts_ok counts lengths = all_below activities (λ a. zeros (drop (get_or lengths a 0) (block counts a)))
+unfoldable pub counts_ok : Sides → Bool
+counts_ok sides = all_below activities (λ a. zeros (drop (get_or sides.lengths a 0) (block sides.counts a)))
 
 -- the sides of one kind are as they have to be, and so are their counts
 unfoldable pub kind_ok : Sides → ℕ → Bool
-kind_ok sides empty = sides_ok sides.masks sides.lengths empty && counts_ok sides.counts sides.lengths
+kind_ok sides empty = sides_ok sides empty && counts_ok sides
 
 -- the lists of one kind of side are as long as the record's arrays
 abbrev pub sides_sized : Sides → Bool

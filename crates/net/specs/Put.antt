@@ -7,7 +7,7 @@ use Rattle.net.specs.Refusals.{Says, means, accepted, disorderly, no_activity, m
 use Rattle.net.specs.Sentences.{Sentence, whole}
 use Rattle.net.specs.Chains.{unless}
 use Rattle.net.specs.Lists.{listed, place_in, insert_at, insert, splice, AtMost}
-use Rattle.net.specs.Sides.{masks_of, lengths_of, counts_of, empty_at, side_in, OnSide}
+use Rattle.net.specs.Sides.{sides_of, empty_at, sets_in, counts_in, OnSide}
 use Rattle.net.specs.Orderly.{orderly}
 use Rattle.net.specs.Common.{not_orderly}
 use Rattle.net.specs.declared.Net.{Net}
@@ -45,61 +45,44 @@ put_refusals net side a m =
 unfoldable pub misplaced : ℕ → ℕ → ℕ → Bool
 misplaced empty a m = cond (eqb m 0) (not (eqb a empty)) (eqb a empty)
 
--- what is said of a set m for activity a's side, in arrays of masks and lengths
-unfoldable pub side_says : List ℕ → List ℕ → ℕ → ℕ → ℕ → Says
-side_says masks lengths empty a m =
-    let there = listed m (side_in masks lengths a) in
+-- what is said of a set m for activity a's side
+unfoldable pub side_says : Sides → ℕ → ℕ → ℕ → Says
+side_says sides empty a m =
+    let there = listed m (sets_in sides a) in
     unless (not (misplaced empty a m)) misplaced_set
-    (unless (there || not (eqb (get_or lengths a 0) sets)) full_side
+    (unless (there || not (eqb (get_or sides.lengths a 0) sets)) full_side
     (accepted (indicator (not there))))
 
 unfoldable pub put_says : Net → Side → ℕ → ℕ → Says
 put_says net side a m =
     unless (orderly net) disorderly
     (unless (ltb a activities) no_activity
-    (side_says (masks_of net side) (lengths_of net side) (empty_at net side) a m))
+    (side_says (sides_of net side) (empty_at net side) a m))
 
 -- the call was accepted and its set is new
 unfoldable pub grows : Says → Bool
 grows s = s.ok && eqb s.value 1
 
--- the arrays with m added to activity a's side
-abbrev pub grown_masks : List ℕ → List ℕ → ℕ → ℕ → List ℕ
-grown_masks masks lengths a m = splice masks (sets * a) (insert m (side_in masks lengths a))
+-- the sides with m, which is new, on activity a's: its count is 0, and those behind it move along with their sets (02, (viii))
+abbrev pub grown_sides : Sides → ℕ → ℕ → Sides
+grown_sides sides a m = record {
+  masks = splice sides.masks (sets * a) (insert m (sets_in sides a));
+  lengths = set sides.lengths a (get_or sides.lengths a 0 + 1);
+  counts = splice sides.counts (sets * a) (insert_at (place_in m (sets_in sides a)) 0 (counts_in sides a));
+}
 
-abbrev pub grown_lengths : List ℕ → ℕ → List ℕ
-grown_lengths lengths a = set lengths a (get_or lengths a 0 + 1)
+-- the sides after m was put on activity a's: with it if it is new, else those given
+unfoldable pub put_sides : Sides → ℕ → ℕ → ℕ → Sides
+put_sides sides empty a m = cond (grows (side_says sides empty a m)) (grown_sides sides a m) sides
 
--- and the counts, in which m has 0 and those behind it move along with their sets (02, (viii))
-abbrev pub grown_counts : List ℕ → List ℕ → List ℕ → ℕ → ℕ → List ℕ
-grown_counts masks lengths counts a m = splice counts (sets * a) (insert_at (place_in m (side_in masks lengths a)) 0 (side_in counts lengths a))
+-- the net with other sides of one kind
+abbrev pub with_sides : Net → Side → Sides → Net
+with_sides net Input sides = record { start = net.start; end = net.end; inputs = sides; outputs = net.outputs }
+with_sides net Output sides = record { start = net.start; end = net.end; inputs = net.inputs; outputs = sides }
 
--- the sides of these arrays
-abbrev pub sides_in : List ℕ → List ℕ → List ℕ → Sides
-sides_in masks lengths counts = record { masks = masks; lengths = lengths; counts = counts }
-
--- the net with other arrays for one kind of side
-abbrev pub with_sides : Net → Side → List ℕ → List ℕ → List ℕ → Net
-with_sides net Input masks lengths counts =
-    record { start = net.start; end = net.end; inputs = sides_in masks lengths counts; outputs = net.outputs }
-with_sides net Output masks lengths counts =
-    record { start = net.start; end = net.end; inputs = net.inputs; outputs = sides_in masks lengths counts }
-
--- the net with m added to activity a's side
+-- the net with m, which is new, on activity a's side
 abbrev pub with_set : Net → Side → ℕ → ℕ → Net
-with_set net side a m =
-    with_sides net side (grown_masks (masks_of net side) (lengths_of net side) a m) (grown_lengths (lengths_of net side) a)
-    (grown_counts (masks_of net side) (lengths_of net side) (counts_of net side) a m)
-
--- the arrays after m was put on activity a's side
-unfoldable pub put_masks : List ℕ → List ℕ → ℕ → ℕ → ℕ → List ℕ
-put_masks masks lengths empty a m = cond (grows (side_says masks lengths empty a m)) (grown_masks masks lengths a m) masks
-
-unfoldable pub put_lengths : List ℕ → List ℕ → ℕ → ℕ → ℕ → List ℕ
-put_lengths masks lengths empty a m = cond (grows (side_says masks lengths empty a m)) (grown_lengths lengths a) lengths
-
-unfoldable pub put_counts : List ℕ → List ℕ → List ℕ → ℕ → ℕ → ℕ → List ℕ
-put_counts masks lengths counts empty a m = cond (grows (side_says masks lengths empty a m)) (grown_counts masks lengths counts a m) counts
+with_set net side a m = with_sides net side (grown_sides (sides_of net side) a m)
 
 -- the net that put has to return: with the set if it is new, else the very net given
 unfoldable pub put_gives : Net → Side → ℕ → ℕ → Net

@@ -40,41 +40,43 @@ empty_at net Output = net.end
 abbrev pub uncounted_sides : List ℕ → List ℕ → Sides
 uncounted_sides masks lengths = record { masks = masks; lengths = lengths; counts = blank places }
 
--- the net of these ends and arrays, with counts 0
-abbrev pub net_of : ℕ → ℕ → List ℕ → List ℕ → List ℕ → List ℕ → Net
-net_of start end inputs input_lengths outputs output_lengths =
-    record { start = start; end = end; inputs = uncounted_sides inputs input_lengths; outputs = uncounted_sides outputs output_lengths }
-
 -- a net with counts 0 in place of its own
 abbrev pub uncounted : Net → Net
-uncounted net = net_of net.start net.end net.inputs.masks net.inputs.lengths net.outputs.masks net.outputs.lengths
+uncounted net = record {
+  start = net.start;
+  end = net.end;
+  inputs = uncounted_sides net.inputs.masks net.inputs.lengths;
+  outputs = uncounted_sides net.outputs.masks net.outputs.lengths;
+}
 
 -- two nets differ in their counts alone, or not at all
 abbrev pub SameButCounts : Net → Net → Type 0
 SameButCounts net other = uncounted net ≡ uncounted other
 
--- the 16 places of activity a, and the first n of them
+-- the 16 places of activity a in an array, and the first n of them
 abbrev pub block : List ℕ → ℕ → List ℕ
-block masks a = take sets (drop (sets * a) masks)
+block array a = take sets (drop (sets * a) array)
 
 abbrev pub first_of : List ℕ → ℕ → ℕ → List ℕ
-first_of masks a n = take n (drop (sets * a) masks)
+first_of array a n = take n (drop (sets * a) array)
 
--- the sets on activity a's side, in arrays of masks and lengths
-abbrev pub side_in : List ℕ → List ℕ → ℕ → List ℕ
-side_in masks lengths a = first_of masks a (get_or lengths a 0)
+-- the sets on activity a's side, and their counts in the same order
+abbrev pub sets_in : Sides → ℕ → List ℕ
+sets_in sides a = first_of sides.masks a (get_or sides.lengths a 0)
+
+abbrev pub counts_in : Sides → ℕ → List ℕ
+counts_in sides a = first_of sides.counts a (get_or sides.lengths a 0)
 
 -- where m stands on activity a's side or would stand there, among all places of this kind of side
-abbrev pub place_on : List ℕ → List ℕ → ℕ → ℕ → ℕ
-place_on masks lengths a m = sets * a + place_in m (side_in masks lengths a)
+abbrev pub place_on : Sides → ℕ → ℕ → ℕ
+place_on sides a m = sets * a + place_in m (sets_in sides a)
 
--- the sets on activity a's side of a net
+-- the sets on activity a's side of a net, and their counts
 abbrev pub sets_on : Net → Side → ℕ → List ℕ
-sets_on net side a = side_in (masks_of net side) (lengths_of net side) a
+sets_on net side a = sets_in (sides_of net side) a
 
--- the counts of those sets, in their order
 abbrev pub counts_on : Net → Side → ℕ → List ℕ
-counts_on net side a = side_in (counts_of net side) (lengths_of net side) a
+counts_on net side a = counts_in (sides_of net side) a
 
 -- the count beside m, in a list of sets and one of their counts, and 0 if m isn't there
 unfoldable pub count_in : ℕ → List ℕ → List ℕ → ℕ

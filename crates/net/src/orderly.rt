@@ -37,7 +37,7 @@ fn kind_ok(sides: &Sides, empty: u32) -> bool
 
 // Whether every side of one kind is as it has to be, but for its counts.
 fn sides_ok(sides: &Sides, empty: u32) -> bool
-    ensures { result ≡ sides_ok sides.now.masks sides.now.lengths empty }
+    ensures { result ≡ sides_ok sides.now empty }
 {
     (0..ACTIVITIES).all(|a| {
         let from = (SETS * a) as usize;
@@ -50,7 +50,7 @@ fn sides_ok(sides: &Sides, empty: u32) -> bool
 // Whether the places past each side's sets have count 0, on every side of one kind, none of which has more than 16 sets.
 fn counts_ok(sides: &Sides) -> bool
     requires { SidesFit sides.now }
-    ensures { result ≡ counts_ok sides.now.counts sides.now.lengths }
+    ensures { result ≡ counts_ok sides.now }
 {
     (0..ACTIVITIES).all(|a| {
         let from = (SETS * a) as usize;

@@ -50,9 +50,9 @@ fn put_in(net: &mut Net, side: Side, a: u32, m: u32) -> Result<bool, Refused>
 // Puts m on activity a's side, and the counts move along with their sets: a new set has count 0, and one that is there keeps its
 // own.
 pub fn put_counted(sides: &mut Sides, empty: u32, a: u32, m: u32) -> Result<Placed, Refusal>
-    requires orderly { OrderlySides sides.old.masks sides.old.lengths empty }
+    requires orderly { OrderlySides sides.old empty }
     requires activity { a < activities }
-    ensures { CountedDone sides.old.masks sides.old.lengths sides.old.counts empty a m result sides.new.masks sides.new.lengths sides.new.counts }
+    ensures { CountedDone sides.old empty a m result sides.new }
 {
     // Before the length grows.
     let to = side_end(sides, a);
@@ -65,10 +65,9 @@ pub fn put_counted(sides: &mut Sides, empty: u32, a: u32, m: u32) -> Result<Plac
 
 // Puts m on activity a's side, where the side of `empty` holds just the empty set; the counts stay where they are.
 pub fn put_side(sides: &mut Sides, empty: u32, a: u32, m: u32) -> Result<Placed, Refusal>
-    requires orderly { OrderlySides sides.old.masks sides.old.lengths empty }
+    requires orderly { OrderlySides sides.old empty }
     requires activity { a < activities }
-    ensures done { SideDone sides.old.masks sides.old.lengths empty a m result sides.new.masks sides.new.lengths }
-    ensures counts { sides.new.counts ≡ sides.old.counts }
+    ensures { SideDone sides.old empty a m result sides.new }
 {
     if is_misplaced(empty, a, m) {
         return Err(Refusal::MisplacedSet);
@@ -98,7 +97,7 @@ fn side_end(sides: &Sides, a: u32) -> usize
 // Where m stands on activity a's side, or would stand.
 fn place_on(sides: &Sides, a: u32, m: u32) -> usize
     requires { SidesFit sides.now × (a < activities) }
-    ensures { result ≡ place_on sides.now.masks sides.now.lengths a m }
+    ensures { result ≡ place_on sides.now a m }
 {
     (SETS * a) as usize + lists::place_in(sides.sets(a), m)
 }

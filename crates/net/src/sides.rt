@@ -25,13 +25,13 @@ impl Sides {
     ghost use Rattle.std.specs.Prelude.{◌≡◌, ◌<◌, ◌≤◌, get_or};
     ghost use Rattle.obligations.specs.Limits.{activities};
     ghost use Rattle.net.specs.Limits.{sets};
-    ghost use Rattle.net.specs.Sides.{side_in};
+    ghost use Rattle.net.specs.Sides.{sets_in};
 
     // The sets on activity a's side.
     pub fn sets(&self, a: u32) -> &[u32]
         requires activity { a < activities }
         requires at_most { get_or self.now.lengths a 0 ≤ sets }
-        ensures { result.now ≡ side_in self.now.masks self.now.lengths a }
+        ensures { result.now ≡ sets_in self.now a }
     {
         let from = (SETS * a) as usize;
         &self.masks[from..from + self.lengths[a as usize] as usize]

@@ -17,7 +17,7 @@ use Rattle.net.specs.Refusals.{Says, accepted, refused, outside_limits}
 use Rattle.net.specs.Limits.{sets}
 use Rattle.net.specs.Sentences.{NoneHolds}
 use Rattle.net.specs.Lists.{listed, AtMost}
-use Rattle.net.specs.Sides.{masks_of, lengths_of, empty_at, sets_on, OnSide}
+use Rattle.net.specs.Sides.{sides_of, empty_at, sets_on, OnSide}
 use Rattle.net.specs.Orderly.{orderly}
 use Rattle.net.specs.Contained.{Contained}
 use Rattle.net.specs.declared.Net.{Net}
@@ -44,7 +44,7 @@ module _ (net : Net) (o : orderly net ≡ true) (rows : List (List ℕ)) (on : (
   -- a row is on no side that holds just the empty set
   none_there : (side : Side) (m : ℕ) → empty_at net side < activities → HasRow rows side (empty_at net side) m → ⊥
   none_there side m h r =
-      let z = side_just_empty (masks_of net side) (lengths_of net side) (empty_at net side) (orderly_sides net o side) (empty_at net side) h refl in
+      let z = side_just_empty (sides_of net side) (empty_at net side) (orderly_sides net o side) (empty_at net side) h refl in
       let e = listed_one m 0 (rw z at (on side (empty_at net side) m r)) in omega (arith, r.is_row.not_empty)
 
   rows_at_most : (side : Side) (a : ℕ) → AtMost sets (HasRow rows side a)

@@ -16,7 +16,7 @@ use Rattle.obligations.specs.Limits.{activities, masks}
 use Rattle.obligations.proofs.BoolLaws.{false-not-true}
 use Rattle.net.specs.Refusals.{Says, accepted, refused, disorderly, text_too_long}
 use Rattle.net.specs.Chains.{unless}
-use Rattle.net.specs.Sides.{masks_of, lengths_of, empty_at, uncounted, OnSide}
+use Rattle.net.specs.Sides.{sides_of, empty_at, uncounted, OnSide}
 use Rattle.net.specs.Orderly.{ends_ok, orderly}
 use Rattle.net.specs.Fresh.{fresh_net}
 use Rattle.net.specs.Contained.{Contained}
@@ -82,7 +82,7 @@ module _ (whole : Net) (q : orderly whole ≡ true) (w : MaskSets whole) where
     same_end = fresh-end whole.start whole.end;
     among = λ side a m h i.
         let e = (fresh_on_side whole.start whole.end ends side a m).0 i in
-        let z = side_just_empty (masks_of whole side) (lengths_of whole side) (empty_at whole side) (orderly_sides whole q side) a h (e.0 ∙ empty_side side) in
+        let z = side_just_empty (sides_of whole side) (empty_at whole side) (orderly_sides whole q side) a h (e.0 ∙ empty_side side) in
         rw (e.1, z) (one_listed 0);
   }
 

@@ -7,7 +7,7 @@ use Rattle.net.specs.Limits.{sets}
 use Rattle.net.specs.Refusals.{accepted, refused}
 use Rattle.net.specs.Sentences.{NoneHolds, AsListed, AsListedByLine}
 use Rattle.net.specs.Lists.{AtMost}
-use Rattle.net.specs.Sides.{masks_of, lengths_of, empty_at, uncounted, SameButCounts, OnSide, Masks}
+use Rattle.net.specs.Sides.{sides_of, empty_at, uncounted, SameButCounts, OnSide, Masks}
 use Rattle.net.specs.Orderly.{Orderly}
 use Rattle.net.specs.Fresh.{fresh_net}
 use Rattle.net.specs.Put.{side_says}
@@ -110,7 +110,7 @@ ReadUncounted = (text : List ℕ) → uncounted (read_net text).net ≡ (read_ne
 abbrev pub RowSaysSide : Type 0
 RowSaysSide =
     (net : Net) (line : List ℕ) (side : Side) (a m : ℕ) → Orderly net → IsSetRow side a m line
-    → row_says net (read_set_row line) ≡ side_says (masks_of net side) (lengths_of net side) (empty_at net side) a m
+    → row_says net (read_set_row line) ≡ side_says (sides_of net side) (empty_at net side) a m
 
 -- ---- what is written is read again
 

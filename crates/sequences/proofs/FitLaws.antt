@@ -12,7 +12,7 @@ use Rattle.obligations.specs.Sequence.{at}
 use Rattle.obligations.specs.declared.sequence.Binding.{Binding}
 use Rattle.obligations.proofs.BoolLaws.{and_both, true_or_false}
 use Rattle.net.specs.Limits.{sets}
-use Rattle.net.specs.Sides.{masks_of, lengths_of, empty_at, sets_on, OnSide}
+use Rattle.net.specs.Sides.{sides_of, empty_at, sets_on, OnSide}
 use Rattle.net.specs.Orderly.{orderly}
 use Rattle.net.specs.Put.{misplaced, side_says}
 use Rattle.net.specs.declared.Net.{Net}
@@ -44,10 +44,10 @@ accepted-fits net s o h f =
 module _ (net : Net) (b : Binding) (o : orderly net ≡ true) (h : b.activity < 32) where
   -- a side of 16 sets and a set that isn't one of them
   full_exceeds : (t : Side) (s : List Binding) → misplaced (empty_at net t) b.activity (set_for t b) ≡ false
-      → (side_says (masks_of net t) (lengths_of net t) (empty_at net t) b.activity (set_for t b)).ok ≡ false → Fits net (b ∷ s) → ⊥
+      → (side_says (sides_of net t) (empty_at net t) b.activity (set_for t b)).ok ≡ false → Fits net (b ∷ s) → ⊥
   full_exceeds t s p k w =
       let ms = sets_on net t b.activity in
-      let f = refused_full (masks_of net t) (lengths_of net t) (empty_at net t) b.activity (set_for t b) p k in
+      let f = refused_full (sides_of net t) (empty_at net t) b.activity (set_for t b) p k in
       let n = w.at_most t b.activity h (set_for t b ∷ ms) (distinct_more (set_for t b) ms f.0 (side_distinct net o t b.activity h))
       (λ m i. ⊎_elim inl (λ e. inr (set_first t b s refl (sym e))) (head_or_later m (set_for t b) ms i)) in
       omega (arith, sets_length net o t b.activity h, f.1)
@@ -56,7 +56,7 @@ module _ (net : Net) (b : Binding) (o : orderly net ≡ true) (h : b.activity < 
   unfolding takes_binding takes_put with_use
   refused_exceeds pi po s k w =
       ⊎_elim (λ t. full_exceeds Output s po (rw t at k) w) (λ f. full_exceeds Input s pi f w)
-      (true_or_false (side_says net.inputs.masks net.inputs.lengths net.start b.activity b.input).ok)
+      (true_or_false (side_says net.inputs net.start b.activity b.input).ok)
 
   -- the other positions fit after the first
   fits_after : takes_binding net b ≡ true → (s : List Binding) → Fits net (b ∷ s) → Fits (with_binding net b) s

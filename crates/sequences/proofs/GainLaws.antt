@@ -8,7 +8,7 @@ use mathlib.Core.Logic.{⊎_elim}
 use native.Mathlib.Omega.{arith}
 use borrow.Author.Tests.{eq-eqb, ne_eqb}
 use lib.Dec.{ltb}
-use lib.ListN.{length, get_or, length-set}
+use lib.ListN.{length, get_or}
 use Rattle.std.proofs.Common.{Result, Ok, Err}
 use Rattle.obligations.specs.Limits.{activities}
 use Rattle.obligations.specs.Tests.{indicator}
@@ -18,17 +18,17 @@ use Rattle.net.specs.Limits.{places, most_uses}
 use Rattle.net.specs.Refusals.{Says, accepted, refused, refusal_number}
 use Rattle.net.specs.Sides.{net_size, place_on}
 use Rattle.net.specs.Inner.{OrderlySides, CountedDone}
-use Rattle.net.specs.Orderly.{orderly}
-use Rattle.net.specs.Put.{side_says, put_masks, put_lengths, put_counts, sides_in}
+use Rattle.net.specs.Orderly.{sides_ok, orderly}
+use Rattle.net.specs.Put.{side_says, put_sides}
 use Rattle.net.specs.declared.Net.{Net}
 use Rattle.net.specs.declared.putting.Placed.{Placed}
 use Rattle.net.specs.declared.refusal.Refusal.{Refusal}
 use Rattle.net.specs.declared.refusal.Refusal.TheVariants.{FullSide}
 use Rattle.net.specs.declared.sides.Sides.{Sides}
 use Rattle.net.specs.declared.sides.Side.TheVariants.{Input, Output}
-use Rattle.net.proofs.PutSideLaws.{place_below, length-put_counts, put_side-total, put_side_orderly, side_value}
-use Rattle.net.proofs.OrderlyLaws.{orderly_sides, orderly_counts}
-use Rattle.sequences.specs.Gain.{raised_at, topped_at, used_counts, topped_counts, with_use, takes_put, topped_use, with_binding, takes_binding, topped_binding, gained, fits, topped}
+use Rattle.net.proofs.PutSideLaws.{place_below, put_side-total, put_side_orderly, side_value}
+use Rattle.net.proofs.OrderlyLaws.{orderly_sides}
+use Rattle.sequences.specs.Gain.{raised_at, topped_at, used_sides, topped_sides, with_use, takes_put, topped_use, with_binding, takes_binding, topped_binding, gained, fits, topped}
 use Rattle.sequences.specs.Learn.{gain_says, new_sets}
 use Rattle.sequences.specs.Inner.{gained_by, SetGained}
 use Rattle.sequences.specs.declared.gaining.Added.{Added}
@@ -56,76 +56,60 @@ one_topped : (counts : List ℕ) (i : ℕ) → topped_at counts i ≤ 1
 unfolding topped_at
 one_topped counts i = ⊎_elim (λ t. rw t (omega arith)) (λ t. rw t (omega arith)) (true_or_false (ltb (get_or counts i 0) most_uses))
 
-length_used : (masks lengths counts : List ℕ) (empty a m : ℕ) → OrderlySides masks lengths empty → length counts ≡ places → a < activities → length (used_counts masks lengths counts empty a m) ≡ places
-unfolding raised_at
-length_used masks lengths counts empty a m o long h =
-    let i = place_on masks lengths a m in
-    let l = put_counts masks lengths counts empty a m in
-    let n = length-put_counts masks lengths counts empty a m o long h in
-    ⊎_elim (λ t. rw t (length-set l i (get_or l i 0 + 1) ∙ n)) (λ t. rw t n) (true_or_false (ltb (get_or l i 0) most_uses))
-
 -- ---- what a put and a raise leave
 
 module _ (sides : Sides) (empty a m : ℕ) where
   abbrev side_answer : Says
-  side_answer = side_says sides.masks sides.lengths empty a m
+  side_answer = side_says sides empty a m
 
-  module _ (p : Placed) (put : Sides) (d : CountedDone sides.masks sides.lengths sides.counts empty a m (Ok p) put.masks put.lengths put.counts) where
+  module _ (p : Placed) (put : Sides) (d : CountedDone sides empty a m (Ok p) put) where
     accepts : side_answer.ok ≡ true
-    accepts = ap (λ (s : Says). s.ok) (sym d.side_done.says)
+    accepts = ap (λ (s : Says). s.ok) (sym d.said.says)
 
-    pub raise_below : OrderlySides sides.masks sides.lengths empty → a < activities → p.at < places
-    raise_below o h = omega (arith, d.side_done.place_is p refl, place_below sides.masks sides.lengths empty a m o h accepts)
+    pub raise_below : OrderlySides sides empty → a < activities → p.at < places
+    raise_below o h = omega (arith, d.said.place_is p refl, place_below sides empty a m o h accepts)
 
-    pub gained_set : (tops : ℕ) (counts' : List ℕ) → tops ≡ topped_at put.counts p.at → counts' ≡ raised_at put.counts p.at
-        → SetGained sides empty a m (Ok (record { sets = indicator p.new; topped = tops })) (sides_in put.masks put.lengths counts')
+    pub gained_set : (tops : ℕ) (counts : List ℕ) → tops ≡ topped_at put.counts p.at → counts ≡ raised_at put.counts p.at
+        → SetGained sides empty a m (Ok (record { sets = indicator p.new; topped = tops })) (record { masks = put.masks; lengths = put.lengths; counts = counts })
     unfolding gained_by
-    gained_set tops counts' t c =
-        let q : p.at ≡ place_on sides.masks sides.lengths a m = d.side_done.place_is p refl in
-        record {
-          adds = rw (← d.side_done.says, t, d.counts_are, q);
-          masks_are = d.side_done.masks_are;
-          lengths_are = d.side_done.lengths_are;
-          counts_are = λ ok. c ∙ rw (d.counts_are, q);
-        }
+    gained_set tops counts t c =
+        let q : p.at ≡ place_on sides a m = d.said.place_is p refl in
+        record { adds = rw (← d.said.says, t, d.sides_are, q); sides_are = λ ok. rw (c, d.sides_are, q) }
 
-  pub gained_none : (e : Refusal) (put : Sides) → CountedDone sides.masks sides.lengths sides.counts empty a m (Err e) put.masks put.lengths put.counts
-      → SetGained sides empty a m (Err FullSide) put
+  pub gained_none : (e : Refusal) (put : Sides) → CountedDone sides empty a m (Err e) put → SetGained sides empty a m (Err FullSide) put
   unfolding gained_by
   gained_none e put d =
-      let f : side_answer.ok ≡ false = ap (λ (s : Says). s.ok) (sym d.side_done.says) in
-      record {
-        adds = rw f;
-        masks_are = d.side_done.masks_are;
-        lengths_are = d.side_done.lengths_are;
-        counts_are = λ ok. absurd (false-not-true f ok);
-      }
+      let f : side_answer.ok ≡ false = ap (λ (s : Says). s.ok) (sym d.said.says) in
+      record { adds = rw f; sides_are = λ ok. absurd (false-not-true f ok) }
 
   -- what a set leaves of its side, where it was taken
   module _ (x : Added) (sides' : Sides) (d : SetGained sides empty a m (Ok x) sides') where
-    taken : (side_answer.ok ≡ true) × (x.sets ≡ side_answer.value) × (x.topped ≡ topped_counts sides.masks sides.lengths sides.counts empty a m)
-    taken = took side_answer (topped_counts sides.masks sides.lengths sides.counts empty a m) x d.adds
+    taken : (side_answer.ok ≡ true) × (x.sets ≡ side_answer.value) × (x.topped ≡ topped_sides sides empty a m)
+    taken = took side_answer (topped_sides sides empty a m) x d.adds
 
     pub takes : side_answer.ok ≡ true
     takes = taken.0
 
     pub one_set : x.sets ≤ 1
-    one_set = omega (arith, taken.1, side_value sides.masks sides.lengths empty a m)
+    one_set = omega (arith, taken.1, side_value sides empty a m)
 
     pub one_top : x.topped ≤ 1
-    one_top = omega (arith, taken.2, one_topped (put_counts sides.masks sides.lengths sides.counts empty a m) (place_on sides.masks sides.lengths a m))
+    one_top = omega (arith, taken.2, one_topped (put_sides sides empty a m).counts (place_on sides a m))
 
-    sides_are : sides' ≡ sides_in (put_masks sides.masks sides.lengths empty a m) (put_lengths sides.masks sides.lengths empty a m) (used_counts sides.masks sides.lengths sides.counts empty a m)
-    sides_are = λ j. record { masks = d.masks_are j; lengths = d.lengths_are j; counts = d.counts_are taken.0 j }
+    used_are : sides' ≡ used_sides sides empty a m
+    used_are = d.sides_are taken.0
+
+    used_orderly : OrderlySides sides empty → a < activities → OrderlySides sides' empty
+    unfolding sides_ok
+    used_orderly o h =
+        let p = put_side_orderly sides empty a m o h in rw used_are (record { masks_long = p.masks_long; lengths_long = p.lengths_long; all_ok = p.all_ok })
 
 -- ---- the loop
 
 -- where `rest` is left of the positions: the net so far, the number of sets added and of counts that couldn't be raised
 pub record Gaining (net : Net) (s : List Binding) (now : Net) (rest : List Binding) (new tops : ℕ) : Type 0 where
-  pub inputs_orderly : OrderlySides now.inputs.masks now.inputs.lengths now.start
-  pub outputs_orderly : OrderlySides now.outputs.masks now.outputs.lengths now.end
-  pub input_counts_long : length now.inputs.counts ≡ places
-  pub output_counts_long : length now.outputs.counts ≡ places
+  pub inputs_orderly : OrderlySides now.inputs now.start
+  pub outputs_orderly : OrderlySides now.outputs now.end
   pub activities_only : Activities rest
   pub gained_rest : gained net s ≡ gained now rest
   pub fits_rest : fits net s ≡ fits now rest
@@ -138,8 +122,6 @@ pub gaining_start : (net : Net) (s rest : List Binding) → rest ≡ s → order
 gaining_start net s rest e o low = rw e (record {
   inputs_orderly = orderly_sides net o Input;
   outputs_orderly = orderly_sides net o Output;
-  input_counts_long = (orderly_counts net o Input).counts_long;
-  output_counts_long = (orderly_counts net o Output).counts_long;
   activities_only = low;
   gained_rest = refl;
   fits_rest = refl;
@@ -199,8 +181,8 @@ module _ (net : Net) (s : List Binding) (now : Net) (rest : List Binding) (new t
         next_is : next ≡ with_binding now b
         unfolding with_binding with_use
         next_is =
-            let p = sides_are now.inputs now.start b.activity b.input x inputs dx in
-            let q = sides_are now.outputs now.end b.activity b.output y outputs dy in
+            let p = used_are now.inputs now.start b.activity b.input x inputs dx in
+            let q = used_are now.outputs now.end b.activity b.output y outputs dy in
             λ j. record { start = now.start; end = now.end; inputs = p j; outputs = q j }
 
         pub gaining_next : Gaining net s next rest' (new + (x.sets + y.sets)) (tops + (x.topped + y.topped))
@@ -214,16 +196,14 @@ module _ (net : Net) (s : List Binding) (now : Net) (rest : List Binding) (new t
             let yt = one_top now.outputs now.end b.activity b.output y outputs dy in
             let n : length rest ≡ length rest' + 1 = ap length e ∙ omega arith in
             record {
-              inputs_orderly = rw (dx.masks_are, dx.lengths_are) (put_side_orderly now.inputs.masks now.inputs.lengths now.start b.activity b.input g.inputs_orderly gaining_activity);
-              outputs_orderly = rw (dy.masks_are, dy.lengths_are) (put_side_orderly now.outputs.masks now.outputs.lengths now.end b.activity b.output g.outputs_orderly gaining_activity);
-              input_counts_long = rw (dx.counts_are tx.0) (length_used now.inputs.masks now.inputs.lengths now.inputs.counts now.start b.activity b.input g.inputs_orderly g.input_counts_long gaining_activity);
-              output_counts_long = rw (dy.counts_are ty.0) (length_used now.outputs.masks now.outputs.lengths now.outputs.counts now.end b.activity b.output g.outputs_orderly g.output_counts_long gaining_activity);
+              inputs_orderly = used_orderly now.inputs now.start b.activity b.input x inputs dx g.inputs_orderly gaining_activity;
+              outputs_orderly = used_orderly now.outputs now.end b.activity b.output y outputs dy g.outputs_orderly gaining_activity;
               activities_only = λ i h. (rw e at g.activities_only) (suc i) (omega arith);
               gained_rest = g.gained_rest ∙ ap (gained now) e ∙ ap (λ (k : Net). gained k rest') (sym next_is);
               fits_rest = g.fits_rest ∙ ap (fits now) e ∙ rw (tx.0, ty.0) (ap (λ (k : Net). fits k rest') (sym next_is));
               topped_rest = omega (arith, g.topped_rest, ap (topped now) e, ap (λ (k : Net). topped k rest') next_is, tx.2, ty.2);
               grown =
-                  omega (arith, g.grown, ap net_size next_is, tx.1, ty.1, put_side-total now.inputs.masks now.inputs.lengths now.start b.activity b.input (omega (arith, g.inputs_orderly.lengths_long, gaining_activity)), put_side-total now.outputs.masks now.outputs.lengths now.end b.activity b.output (omega (arith, g.outputs_orderly.lengths_long, gaining_activity)));
+                  omega (arith, g.grown, ap net_size next_is, tx.1, ty.1, put_side-total now.inputs now.start b.activity b.input (omega (arith, g.inputs_orderly.lengths_long, gaining_activity)), put_side-total now.outputs now.end b.activity b.output (omega (arith, g.outputs_orderly.lengths_long, gaining_activity)));
               bounded = omega (arith, g.bounded);
               few_tops = omega (arith, g.few_tops);
             }

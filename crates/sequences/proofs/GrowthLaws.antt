@@ -17,47 +17,42 @@ use Rattle.obligations.specs.declared.sequence.Binding.{Binding}
 use Rattle.obligations.proofs.BoolLaws.{and_left, and_right, true_or_false}
 use Rattle.net.specs.Limits.{most_uses}
 use Rattle.net.specs.Lists.{listed}
-use Rattle.net.specs.Sides.{masks_of, lengths_of, counts_of, empty_at, opposite, side_in, sets_on, counts_on, count_in, count_of, OnSide, net_size, place_on}
+use Rattle.net.specs.Sides.{sides_of, empty_at, opposite, sets_in, counts_in, sets_on, counts_on, count_in, count_of, OnSide, net_size, place_on}
 use Rattle.net.specs.Inner.{OrderlySides}
-use Rattle.net.specs.Orderly.{orderly}
-use Rattle.net.specs.Put.{put_says, put_masks, put_lengths, put_counts, with_sides, put_gives}
+use Rattle.net.specs.Orderly.{sides_ok, orderly}
+use Rattle.net.specs.Put.{put_says, put_sides, with_sides, put_gives}
 use Rattle.net.specs.Contained.{Contained}
 use Rattle.net.specs.declared.Net.{Net}
 use Rattle.net.specs.declared.sides.Side.{Side}
+use Rattle.net.specs.declared.sides.Sides.{Sides}
 use Rattle.net.specs.declared.sides.Side.TheVariants.{Input, Output}
 use Rattle.net.proofs.SideLaws.{OrderlyCounts}
 use Rattle.net.proofs.OrderlyLaws.{orderly_sides, orderly_counts}
 use Rattle.net.proofs.PutSideLaws.{put_side_orderly, put_side_counted, put_side_holds, put_side_count, put_side_sum}
-use Rattle.net.proofs.WithSidesLaws.{with_start, with_end, sets_are, counts_are, with_orderly}
+use Rattle.net.proofs.WithSidesLaws.{with_start, with_end, with_own, with_orderly}
 use Rattle.net.proofs.PutLaws.{put_says_side, put_gives_sides, put_refused, put_on_side, put_size}
 use Rattle.net.proofs.ContainedLaws.{contained-refl, contained_trans, put-contained}
-use Rattle.sequences.specs.Gain.{raised_at, topped_at, used_counts, with_use, takes_put, topped_use, with_binding, takes_binding, topped_binding, gained, fits, set_for, SetOf}
+use Rattle.sequences.specs.Gain.{raised_at, topped_at, used_sides, with_use, takes_put, topped_use, with_binding, takes_binding, topped_binding, gained, fits, set_for, SetOf}
 use Rattle.sequences.proofs.UseLaws.{place_kept, raised_orderly, topped_exactly, raised_count, raised_sum}
 
 -- ---- one use
 
 module _ (net : Net) (side : Side) (a m : ℕ) (o : orderly net ≡ true) (h : a < 32) where
-  abbrev masks' : List ℕ
-  masks' = put_masks (masks_of net side) (lengths_of net side) (empty_at net side) a m
+  abbrev put : Sides
+  put = put_sides (sides_of net side) (empty_at net side) a m
 
-  abbrev lengths' : List ℕ
-  lengths' = put_lengths (masks_of net side) (lengths_of net side) (empty_at net side) a m
-
-  abbrev counts' : List ℕ
-  counts' = put_counts (masks_of net side) (lengths_of net side) (counts_of net side) (empty_at net side) a m
-
-  abbrev raised : List ℕ
-  raised = used_counts (masks_of net side) (lengths_of net side) (counts_of net side) (empty_at net side) a m
+  abbrev used : Sides
+  used = used_sides (sides_of net side) (empty_at net side) a m
 
   -- beside the counts it is a put
-  put_is : put_gives net side a m ≡ with_sides net side masks' lengths' counts'
+  put_is : put_gives net side a m ≡ with_sides net side put
   put_is = put_gives_sides net side a m o h
 
   same_sets : (t : Side) (b : ℕ) → sets_on (with_use net side a m) t b ≡ sets_on (put_gives net side a m) t b
   unfolding with_use
   same_sets t b = rw put_is (go side t)
     where
-      go : (r t : Side) → sets_on (with_sides net r masks' lengths' raised) t b ≡ sets_on (with_sides net r masks' lengths' counts') t b
+      go : (r t : Side) → sets_on (with_sides net r used) t b ≡ sets_on (with_sides net r put) t b
       go Input Input = refl
       go Input Output = refl
       go Output Input = refl
@@ -67,26 +62,30 @@ module _ (net : Net) (side : Side) (a m : ℕ) (o : orderly net ≡ true) (h : a
   unfolding takes_put
   takes_put_lem = sym (ap (λ s. s.ok) (put_says_side net side a m o h))
 
-  sides_after : OrderlySides masks' lengths' (empty_at net side)
-  sides_after = put_side_orderly (masks_of net side) (lengths_of net side) (empty_at net side) a m (orderly_sides net o side) h
+  sides_after : OrderlySides put (empty_at net side)
+  sides_after = put_side_orderly (sides_of net side) (empty_at net side) a m (orderly_sides net o side) h
 
-  counts_after : OrderlyCounts counts' lengths'
-  counts_after = put_side_counted (masks_of net side) (lengths_of net side) (counts_of net side) (empty_at net side) a m (orderly_sides net o side) (orderly_counts net o side) h
+  counts_after : OrderlyCounts put
+  counts_after = put_side_counted (sides_of net side) (empty_at net side) a m (orderly_sides net o side) (orderly_counts net o side) h
 
   -- the set is on its side, at the place where it was put
-  there : takes_put net side a m ≡ true → listed m (side_in masks' lengths' a) ≡ true
+  there : takes_put net side a m ≡ true → listed m (sets_in put a) ≡ true
   unfolding takes_put
-  there k = (put_side_holds (masks_of net side) (lengths_of net side) (empty_at net side) a m (orderly_sides net o side) h k a m).1 (inr (refl, refl))
+  there k = (put_side_holds (sides_of net side) (empty_at net side) a m (orderly_sides net o side) h k a m).1 (inr (refl, refl))
 
-  kept_place : place_on masks' lengths' a m ≡ place_on (masks_of net side) (lengths_of net side) a m
-  kept_place = place_kept (masks_of net side) (lengths_of net side) (empty_at net side) a m (orderly_sides net o side) h
+  kept_place : place_on put a m ≡ place_on (sides_of net side) a m
+  kept_place = place_kept (sides_of net side) (empty_at net side) a m (orderly_sides net o side) h
 
-  raised_is : raised ≡ raised_at counts' (place_on masks' lengths' a m)
-  raised_is = rw kept_place
+  used_counts : used.counts ≡ raised_at put.counts (place_on put a m)
+  used_counts = rw kept_place
 
   -- a put that isn't accepted leaves nothing to raise
-  raised_counts : takes_put net side a m ≡ true → OrderlyCounts raised lengths'
-  raised_counts k = rw raised_is (raised_orderly masks' lengths' counts' (empty_at net side) a m sides_after counts_after h (there k))
+  used_counted : takes_put net side a m ≡ true → OrderlyCounts used
+  used_counted k = rw used_counts (raised_orderly put (empty_at net side) a m sides_after counts_after h (there k))
+
+  used_orderly : OrderlySides used (empty_at net side)
+  unfolding sides_ok
+  used_orderly = record { masks_long = sides_after.masks_long; lengths_long = sides_after.lengths_long; all_ok = sides_after.all_ok }
 
   module _ (k : takes_put net side a m ≡ true) where
     said : (put_says net side a m).ok ≡ true
@@ -94,7 +93,7 @@ module _ (net : Net) (side : Side) (a m : ℕ) (o : orderly net ≡ true) (h : a
 
     with_use_orderly : orderly (with_use net side a m) ≡ true
     unfolding with_use
-    with_use_orderly = with_orderly net masks' lengths' raised side o sides_after (raised_counts k)
+    with_use_orderly = with_orderly net used side o used_orderly (used_counted k)
 
     with_use_on_side : (t : Side) (b x : ℕ) → OnSide (with_use net side a m) t b x ↔ (OnSide net t b x ⊎ ((t ≡ side) × (b ≡ a) × (x ≡ m)))
     with_use_on_side t b x = rw (same_sets t b) (put_on_side net side a m said t b x)
@@ -102,8 +101,8 @@ module _ (net : Net) (side : Side) (a m : ℕ) (o : orderly net ≡ true) (h : a
   with_use_contained : Contained net (with_use net side a m)
   unfolding with_use
   with_use_contained = record {
-    same_start = sym (with_start net masks' lengths' raised side);
-    same_end = sym (with_end net masks' lengths' raised side);
+    same_start = sym (with_start net used side);
+    same_end = sym (with_end net used side);
     among = λ t b x l i. rw (same_sets t b) ((put-contained net side a m).among t b x l i);
   }
 
@@ -114,47 +113,47 @@ module _ (net : Net) (side : Side) (a m : ℕ) (o : orderly net ≡ true) (h : a
       ⊎_elim (λ k. omega (arith, same, put_size net side a m k)) (λ k. omega (arith, same, ap net_size (put_refused net side a m k)))
       (true_or_false (put_says net side a m).ok)
     where
-      go : (r : Side) → net_size (with_sides net r masks' lengths' raised) ≡ net_size (with_sides net r masks' lengths' counts')
+      go : (r : Side) → net_size (with_sides net r used) ≡ net_size (with_sides net r put)
       go Input = refl
       go Output = refl
 
-      same : net_size (with_sides net side masks' lengths' raised) ≡ net_size (put_gives net side a m)
+      same : net_size (with_sides net side used) ≡ net_size (put_gives net side a m)
       same = go side ∙ sym (ap net_size put_is)
 
   -- ---- its count
 
-  after_put : (b x : ℕ) → count_in x (side_in masks' lengths' b) (side_in counts' lengths' b) ≡ count_of net side b x
-  after_put b x = put_side_count (masks_of net side) (lengths_of net side) (counts_of net side) (empty_at net side) a m (orderly_sides net o side) (orderly_counts net o side) h b x
+  after_put : (b x : ℕ) → count_in x (sets_in put b) (counts_in put b) ≡ count_of net side b x
+  after_put b x = put_side_count (sides_of net side) (empty_at net side) a m (orderly_sides net o side) (orderly_counts net o side) h b x
 
   module _ (k : takes_put net side a m ≡ true) where
-    topped_is : topped_use net side a m ≡ topped_at counts' (place_on masks' lengths' a m)
+    topped_is : topped_use net side a m ≡ topped_at put.counts (place_on put a m)
     unfolding topped_use
     topped_is = rw kept_place
 
     -- it could be raised exactly if it was below its top
     topped_use_lem : (topped_use net side a m ≡ 0) ↔ (count_of net side a m < most_uses)
     topped_use_lem =
-        let f = topped_exactly masks' lengths' counts' (empty_at net side) a m sides_after counts_after h (there k) in (
+        let f = topped_exactly put (empty_at net side) a m sides_after counts_after h (there k) in (
           (λ z. rw (after_put a m) at (f.0 (sym topped_is ∙ z))),
           (λ l. topped_is ∙ f.1 (rw (after_put a m) l)),
         )
 
     module _ (z : topped_use net side a m ≡ 0) where
-      clear : topped_at counts' (place_on masks' lengths' a m) ≡ 0
+      clear : topped_at put.counts (place_on put a m) ≡ 0
       clear = sym topped_is ∙ z
 
       with_use_count : (b x : ℕ) → count_of (with_use net side a m) side b x ≡ count_of net side b x + indicator (eqb a b && eqb m x)
       unfolding with_use
       with_use_count b x =
-          rw (sets_are net masks' lengths' raised side b, counts_are net masks' lengths' raised side b, raised_is)
-          (raised_count masks' lengths' counts' (empty_at net side) a m sides_after counts_after h (there k) clear b x ∙ rw (after_put b x))
+          rw (with_own net used side, used_counts)
+          (raised_count put (empty_at net side) a m sides_after counts_after h (there k) clear b x ∙ rw (after_put b x))
 
       with_use_sum : (b : ℕ) → total (counts_on (with_use net side a m) side b) ≡ total (counts_on net side b) + indicator (eqb a b)
       unfolding with_use
       with_use_sum b =
-          rw (counts_are net masks' lengths' raised side b, raised_is)
-          (raised_sum masks' lengths' counts' (empty_at net side) a m sides_after counts_after h (there k) clear b
-          ∙ rw (put_side_sum (masks_of net side) (lengths_of net side) (counts_of net side) (empty_at net side) a m (orderly_sides net o side) (orderly_counts net o side) h b))
+          rw (with_own net used side, used_counts)
+          (raised_sum put (empty_at net side) a m sides_after counts_after h (there k) clear b
+          ∙ rw (put_side_sum (sides_of net side) (empty_at net side) a m (orderly_sides net o side) (orderly_counts net o side) h b))
 
 -- a use leaves the sides of the other kind as they are
 other_count : (net : Net) (side : Side) (a m b x : ℕ) → count_of (with_use net side a m) (opposite side) b x ≡ count_of net (opposite side) b x

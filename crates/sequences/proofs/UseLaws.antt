@@ -1,5 +1,5 @@
--- A use of a set that is on a side, in the arrays of one kind of side: its count is the one at its place, and a raise there adds
--- one to it and to the side's sum, and touches nothing else. A put keeps the set's place. Assumes nothing.
+-- A use of a set that is on a side: its count is the one at its place, and a raise there adds one to it and to the side's sum, and
+-- touches nothing else. A put keeps the set's place. Assumes nothing.
 use Prim.Native.Nat.{ℕ, ◌+◌, ◌*◌, ◌-◌, ◌<◌, ◌≤◌}
 use native.Mathlib.Decide.{ℕ_discrete as dec_eq, dec_lt}
 use native.Mathlib.Omega.{arith}
@@ -18,11 +18,12 @@ use Rattle.obligations.proofs.BoolLaws.{true_or_false}
 use Rattle.obligations.proofs.TotalLaws.{total-raise}
 use Rattle.net.specs.Limits.{sets, most_uses}
 use Rattle.net.specs.Lists.{listed, place_in}
-use Rattle.net.specs.Sides.{block, side_in, count_in, place_on}
+use Rattle.net.specs.Sides.{block, first_of, sets_in, counts_in, count_in, place_on}
 use Rattle.net.specs.Inner.{OrderlySides}
-use Rattle.net.specs.Put.{grows, side_says, grown_masks, grown_lengths, put_masks, put_lengths}
+use Rattle.net.specs.Put.{grows, side_says, grown_sides, put_sides}
+use Rattle.net.specs.declared.sides.Sides.{Sides}
 use Rattle.net.proofs.PlaceLaws.{listed-place, count_at, count-raise}
-use Rattle.net.proofs.SideLaws.{OrderlyCounts, counts_past, past_counts, length-side, side-at, side_at_most, side_ascending}
+use Rattle.net.proofs.SideLaws.{OrderlyCounts, counts_past, past_counts, length-first, first-at, side_at_most, side_ascending}
 use Rattle.net.proofs.InsertLaws.{place-insert}
 use Rattle.net.proofs.GrownLaws.{grown_side_same}
 use Rattle.net.proofs.PutSideLaws.{all_at_most, has_room_lem}
@@ -44,78 +45,90 @@ module _ (l : List ℕ) (a j v : ℕ) where
 
 -- ---- a raise
 
-module _ (masks lengths counts : List ℕ) (empty a m : ℕ) (o : OrderlySides masks lengths empty) (c : OrderlyCounts counts lengths) (h : a < activities) (there : listed m (side_in masks lengths a) ≡ true) where
+module _ (sides : Sides) (empty a m : ℕ) (o : OrderlySides sides empty) (c : OrderlyCounts sides) (h : a < activities) (there : listed m (sets_in sides a) ≡ true) where
   abbrev place : ℕ
-  place = place_in m (side_in masks lengths a)
+  place = place_in m (sets_in sides a)
 
-  few : get_or lengths a 0 ≤ sets
-  few = side_at_most masks lengths empty o a h
+  abbrev n : ℕ
+  n = get_or sides.lengths a 0
 
-  inside : place < get_or lengths a 0
-  inside = omega (arith, (listed-place m (side_in masks lengths a) (side_ascending masks lengths empty o a h) there).0, length-side masks lengths a o.masks_long h few)
+  few : n ≤ sets
+  few = side_at_most sides empty o a h
 
-  as_long : length (side_in counts lengths a) ≡ length (side_in masks lengths a)
-  as_long = length-side counts lengths a c.counts_long h few ∙ sym (length-side masks lengths a o.masks_long h few)
+  inside : place < n
+  inside = omega (arith, (listed-place m (sets_in sides a) (side_ascending sides empty o a h) there).0, length-first sides.masks a n o.masks_long h few)
+
+  as_long : length (counts_in sides a) ≡ length (sets_in sides a)
+  as_long = length-first sides.counts a n c.counts_long h few ∙ sym (length-first sides.masks a n o.masks_long h few)
 
   -- the count at the set's place is the set's
-  pub count_there : get_or counts (place_on masks lengths a m) 0 ≡ count_in m (side_in masks lengths a) (side_in counts lengths a)
+  abbrev count : ℕ
+  count = get_or sides.counts (place_on sides a m) 0
+
+  count_there : count ≡ count_in m (sets_in sides a) (counts_in sides a)
   count_there =
-      sym (side-at counts lengths a place inside) ∙ sym (count_at m (side_in masks lengths a) (side_in counts lengths a) (side_ascending masks lengths empty o a h) as_long there)
+      sym (first-at sides.counts a n place inside) ∙ sym (count_at m (sets_in sides a) (counts_in sides a) (side_ascending sides empty o a h) as_long there)
+
+  abbrev with_counts : List ℕ → Sides
+  with_counts counts = record { masks = sides.masks; lengths = sides.lengths; counts = counts }
 
   abbrev stored : List ℕ
-  stored = set counts (place_on masks lengths a m) (get_or counts (place_on masks lengths a m) 0 + 1)
+  stored = set sides.counts (place_on sides a m) (count + 1)
 
-  side_stored : side_in stored lengths a ≡ set (side_in counts lengths a) place (get_or (side_in counts lengths a) place 0 + 1)
-  side_stored = rw (side-at counts lengths a place inside) (store_own counts a place (get_or counts (place_on masks lengths a m) 0 + 1) (get_or lengths a 0) inside)
+  side_stored : first_of stored a n ≡ set (counts_in sides a) place (get_or (counts_in sides a) place 0 + 1)
+  side_stored = rw (first-at sides.counts a n place inside) (store_own sides.counts a place (count + 1) n inside)
 
-  other_stored : (b : ℕ) → (b ≡ a → ⊥) → side_in stored lengths b ≡ side_in counts lengths b
-  other_stored b d = store_other counts a place _ b (get_or lengths b 0) d (all_at_most masks lengths empty a m o h b) (omega (arith, inside, few))
+  other_stored : (b k : ℕ) → (b ≡ a → ⊥) → k ≤ sets → first_of stored b k ≡ first_of sides.counts b k
+  other_stored b k d l = store_other sides.counts a place (count + 1) b k d l (omega (arith, inside, few))
 
-  stored_orderly : OrderlyCounts stored lengths
+  stored_orderly : OrderlyCounts (with_counts stored)
   stored_orderly =
-      past_counts stored lengths (length-set counts _ _ ∙ c.counts_long)
+      past_counts (with_counts stored) (length-set sides.counts _ _ ∙ c.counts_long)
       (λ b l. elim (dec_eq b a) [
-        | yes e ↦ rw (e, store_own counts a place (get_or counts (place_on masks lengths a m) 0 + 1) sets (omega (arith, inside, few)), drop-set-lt (get_or lengths a 0) (block counts a) place (get_or counts (place_on masks lengths a m) 0 + 1) inside) (counts_past counts lengths c a h)
-        | no d ↦ rw (store_other counts a place (get_or counts (place_on masks lengths a m) 0 + 1) b sets d (omega arith) (omega (arith, inside, few))) (counts_past counts lengths c b l)
+        | yes e ↦ rw (e, store_own sides.counts a place (count + 1) sets (omega (arith, inside, few)), drop-set-lt n (block sides.counts a) place (count + 1) inside) (counts_past sides c a h)
+        | no d ↦ rw (other_stored b sets d (omega arith)) (counts_past sides c b l)
       ])
 
-  pub raised_orderly : OrderlyCounts (raised_at counts (place_on masks lengths a m)) lengths
+  -- the sides after the raise
+  abbrev raised : Sides
+  raised = with_counts (raised_at sides.counts (place_on sides a m))
+
+  pub raised_orderly : OrderlyCounts raised
   unfolding raised_at
-  raised_orderly = ⊎_elim (λ t. rw t stored_orderly) (λ t. rw t c) (true_or_false (ltb (get_or counts (place_on masks lengths a m) 0) most_uses))
+  raised_orderly = ⊎_elim (λ t. rw t stored_orderly) (λ t. rw t c) (true_or_false (ltb count most_uses))
 
   -- it could be raised exactly if it is below its top
-  pub topped_exactly : (topped_at counts (place_on masks lengths a m) ≡ 0) ↔ (count_in m (side_in masks lengths a) (side_in counts lengths a) < most_uses)
+  pub topped_exactly : (topped_at sides.counts (place_on sides a m) ≡ 0) ↔ (count_in m (sets_in sides a) (counts_in sides a) < most_uses)
   unfolding topped_at
   topped_exactly = (
-    (λ e. ⊎_elim (λ t. rw count_there at (ltb-true (get_or counts (place_on masks lengths a m) 0) most_uses t)) (λ t. absurd (let z = rw t at e in omega arith)) (true_or_false (ltb (get_or counts (place_on masks lengths a m) 0) most_uses))),
+    (λ e. ⊎_elim (λ t. rw count_there at (ltb-true count most_uses t)) (λ t. absurd (let z = rw t at e in omega arith)) (true_or_false (ltb count most_uses))),
     (λ l. rw (count_there, lt-ltb _ _ l)),
   )
 
-  module _ (t : topped_at counts (place_on masks lengths a m) ≡ 0) where
-    was_stored : raised_at counts (place_on masks lengths a m) ≡ stored
+  module _ (t : topped_at sides.counts (place_on sides a m) ≡ 0) where
+    was_stored : raised_at sides.counts (place_on sides a m) ≡ stored
     unfolding raised_at
-    was_stored = rw (lt-ltb (get_or counts (place_on masks lengths a m) 0) most_uses (rw count_there (topped_exactly.0 t)))
+    was_stored = rw (lt-ltb count most_uses (rw count_there (topped_exactly.0 t)))
 
-    pub raised_count : (b x : ℕ) → count_in x (side_in masks lengths b) (side_in (raised_at counts (place_on masks lengths a m)) lengths b)
-        ≡ count_in x (side_in masks lengths b) (side_in counts lengths b) + indicator (eqb a b && eqb m x)
+    pub raised_count : (b x : ℕ) → count_in x (sets_in raised b) (counts_in raised b) ≡ count_in x (sets_in sides b) (counts_in sides b) + indicator (eqb a b && eqb m x)
     raised_count b x = elim (dec_eq b a) [
-      | yes e ↦ rw (was_stored, e, eq-eqb a a refl, side_stored) (count-raise x m (side_in masks lengths a) (side_in counts lengths a) (side_ascending masks lengths empty o a h) as_long there)
-      | no d ↦ rw (was_stored, other_stored b d, ne_eqb a b (λ e. d (sym e))) (omega arith)
+      | yes e ↦ rw (was_stored, e, eq-eqb a a refl, side_stored) (count-raise x m (sets_in sides a) (counts_in sides a) (side_ascending sides empty o a h) as_long there)
+      | no d ↦ rw (was_stored, other_stored b (get_or sides.lengths b 0) d (all_at_most sides empty a m o h b), ne_eqb a b (λ e. d (sym e))) (omega arith)
     ]
 
-    pub raised_sum : (b : ℕ) → total (side_in (raised_at counts (place_on masks lengths a m)) lengths b) ≡ total (side_in counts lengths b) + indicator (eqb a b)
+    pub raised_sum : (b : ℕ) → total (counts_in raised b) ≡ total (counts_in sides b) + indicator (eqb a b)
     raised_sum b = elim (dec_eq b a) [
-      | yes e ↦ rw (was_stored, e, eq-eqb a a refl, side_stored) (total-raise (side_in counts lengths a) place (omega (arith, inside, length-side counts lengths a c.counts_long h few)))
-      | no d ↦ rw (was_stored, other_stored b d, ne_eqb a b (λ e. d (sym e))) (omega arith)
+      | yes e ↦ rw (was_stored, e, eq-eqb a a refl, side_stored) (total-raise (counts_in sides a) place (omega (arith, inside, length-first sides.counts a n c.counts_long h few)))
+      | no d ↦ rw (was_stored, other_stored b (get_or sides.lengths b 0) d (all_at_most sides empty a m o h b), ne_eqb a b (λ e. d (sym e))) (omega arith)
     ]
 
 -- ---- a put keeps the set's place
 
-pub place_kept : (masks lengths : List ℕ) (empty a m : ℕ) → OrderlySides masks lengths empty → a < activities
-    → place_on (put_masks masks lengths empty a m) (put_lengths masks lengths empty a m) a m ≡ place_on masks lengths a m
-unfolding put_masks put_lengths
-place_kept masks lengths empty a m o h =
-    ⊎_elim (λ g. rw g (grown g)) (λ g. rw g) (true_or_false (grows (side_says masks lengths empty a m)))
+pub place_kept : (sides : Sides) (empty a m : ℕ) → OrderlySides sides empty → a < activities
+    → place_on (put_sides sides empty a m) a m ≡ place_on sides a m
+unfolding put_sides
+place_kept sides empty a m o h =
+    ⊎_elim (λ g. rw g (grown g)) (λ g. rw g) (true_or_false (grows (side_says sides empty a m)))
   where
-    grown : grows (side_says masks lengths empty a m) ≡ true → place_on (grown_masks masks lengths a m) (grown_lengths lengths a) a m ≡ place_on masks lengths a m
-    grown g = rw (grown_side_same masks lengths a m o.masks_long h (has_room_lem masks lengths empty a m o h g) (omega (arith, o.lengths_long)), place-insert m (side_in masks lengths a))
+    grown : grows (side_says sides empty a m) ≡ true → place_on (grown_sides sides a m) a m ≡ place_on sides a m
+    grown g = rw (grown_side_same sides a m h (has_room_lem sides empty a m o h g) o.masks_long (omega (arith, o.lengths_long)), place-insert m (sets_in sides a))

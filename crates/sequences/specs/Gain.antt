@@ -9,11 +9,12 @@ use Rattle.net.specs.Limits.{sets, most_uses}
 use Rattle.net.specs.Lists.{AtMost}
 use Rattle.net.specs.Refusals.{full_side, count_too_high}
 use Rattle.net.specs.Sentences.{Sentence, whole}
-use Rattle.net.specs.Sides.{masks_of, lengths_of, counts_of, empty_at, count_of, OnSide, place_on}
+use Rattle.net.specs.Sides.{sides_of, empty_at, count_of, OnSide, place_on}
 use Rattle.net.specs.Orderly.{Orderly}
-use Rattle.net.specs.Put.{side_says, put_masks, put_lengths, put_counts, with_sides}
+use Rattle.net.specs.Put.{side_says, put_sides, with_sides}
 use Rattle.net.specs.declared.Net.{Net}
 use Rattle.net.specs.declared.sides.Side.{Side}
+use Rattle.net.specs.declared.sides.Sides.{Sides}
 use Rattle.net.specs.declared.sides.Side.TheVariants.{Input, Output}
 
 -- ---- what a net gains, and whether it fits
@@ -73,26 +74,25 @@ raised_at counts i = cond (ltb (get_or counts i 0) most_uses) (set counts i (get
 unfoldable pub topped_at : List ℕ → ℕ → ℕ
 topped_at counts i = cond (ltb (get_or counts i 0) most_uses) 0 1
 
--- m on activity a's side, in the arrays of one kind of side: the counts after it was put there and used, and how many couldn't be
--- raised
-abbrev pub used_counts : List ℕ → List ℕ → List ℕ → ℕ → ℕ → ℕ → List ℕ
-used_counts masks lengths counts empty a m = raised_at (put_counts masks lengths counts empty a m) (place_on masks lengths a m)
+-- the sides after m was put on activity a's and used, and how many counts couldn't be raised
+abbrev pub used_sides : Sides → ℕ → ℕ → ℕ → Sides
+used_sides sides empty a m =
+    let put = put_sides sides empty a m in
+    record { masks = put.masks; lengths = put.lengths; counts = raised_at put.counts (place_on sides a m) }
 
-abbrev pub topped_counts : List ℕ → List ℕ → List ℕ → ℕ → ℕ → ℕ → ℕ
-topped_counts masks lengths counts empty a m = topped_at (put_counts masks lengths counts empty a m) (place_on masks lengths a m)
+abbrev pub topped_sides : Sides → ℕ → ℕ → ℕ → ℕ
+topped_sides sides empty a m = topped_at (put_sides sides empty a m).counts (place_on sides a m)
 
 -- the net after m was put on one side and used, whether that put is accepted, and how many counts couldn't be raised; the net is
 -- orderly and a is an activity
 unfoldable pub with_use : Net → Side → ℕ → ℕ → Net
-with_use net side a m =
-    with_sides net side (put_masks (masks_of net side) (lengths_of net side) (empty_at net side) a m) (put_lengths (masks_of net side) (lengths_of net side) (empty_at net side) a m)
-    (used_counts (masks_of net side) (lengths_of net side) (counts_of net side) (empty_at net side) a m)
+with_use net side a m = with_sides net side (used_sides (sides_of net side) (empty_at net side) a m)
 
 unfoldable pub takes_put : Net → Side → ℕ → ℕ → Bool
-takes_put net side a m = (side_says (masks_of net side) (lengths_of net side) (empty_at net side) a m).ok
+takes_put net side a m = (side_says (sides_of net side) (empty_at net side) a m).ok
 
 unfoldable pub topped_use : Net → Side → ℕ → ℕ → ℕ
-topped_use net side a m = topped_counts (masks_of net side) (lengths_of net side) (counts_of net side) (empty_at net side) a m
+topped_use net side a m = topped_sides (sides_of net side) (empty_at net side) a m
 
 -- the same of one position's two sets
 unfoldable pub with_binding : Net → Binding → Net

@@ -5,13 +5,13 @@ use Rattle.obligations.specs.Sets.{single}
 use Rattle.obligations.specs.Sequence.{bindings, at}
 use Rattle.obligations.specs.declared.sequence.Binding.{Binding}
 use Rattle.net.specs.Refusals.{Says, refused, refusal_number}
-use Rattle.net.specs.Put.{side_says, put_masks, put_lengths}
+use Rattle.net.specs.Put.{side_says}
 use Rattle.net.specs.declared.Net.{Net}
 use Rattle.net.specs.declared.sides.Sides.{Sides}
 use Rattle.net.specs.declared.refusal.Refusal.{Refusal}
 use Rattle.net.specs.declared.refusal.Refusal.TheVariants.{FullSide}
 use Rattle.net.specs.declared.refusal.Refused.{Refused}
-use Rattle.sequences.specs.Gain.{used_counts, topped_counts, gained}
+use Rattle.sequences.specs.Gain.{used_sides, topped_sides, gained}
 use Rattle.sequences.specs.Learn.{learn_means, gain_says}
 use Rattle.sequences.specs.declared.gaining.Added.{Added}
 
@@ -40,12 +40,10 @@ pub record TraceWithinLimits (trace : List ℕ) : Type 0 where
 unfoldable pub gained_by : Says → ℕ → Result Added Refusal
 gained_by says tops = cond says.ok (Ok (record { sets = says.value; topped = tops })) (Err FullSide)
 
--- what a set for activity a's side leaves of the sides of its kind; where the put isn't accepted the counts don't matter
+-- what a set for activity a's side leaves of the sides of its kind; where the put isn't accepted they don't matter
 pub record SetGained (sides : Sides) (empty a m : ℕ) (r : Result Added Refusal) (sides' : Sides) : Type 0 where
-  pub adds : r ≡ gained_by (side_says sides.masks sides.lengths empty a m) (topped_counts sides.masks sides.lengths sides.counts empty a m)
-  pub masks_are : sides'.masks ≡ put_masks sides.masks sides.lengths empty a m
-  pub lengths_are : sides'.lengths ≡ put_lengths sides.masks sides.lengths empty a m
-  pub counts_are : (side_says sides.masks sides.lengths empty a m).ok ≡ true → sides'.counts ≡ used_counts sides.masks sides.lengths sides.counts empty a m
+  pub adds : r ≡ gained_by (side_says sides empty a m) (topped_sides sides empty a m)
+  pub sides_are : (side_says sides empty a m).ok ≡ true → sides' ≡ used_sides sides empty a m
 
 -- refusals 12 and 21 alone, for a sequence that no other refusal holds of
 pub record GainLeft (net : Net) (s : List Binding) (answer : Result ℕ Refused) (net' : Net) : Type 0 where

@@ -1,6 +1,6 @@
 // The net gains a sequence's sets and counts their uses, for learn and follow.
 
-ghost use Rattle.std.specs.Prelude.{◌≡◌, true, ◌<◌, IfOk, length};
+ghost use Rattle.std.specs.Prelude.{◌≡◌, true, ◌<◌, IfOk};
 ghost use Rattle.obligations.specs.Limits.{activities};
 ghost use Rattle.obligations.specs.Sequence.{bindings};
 ghost use Rattle.obligations.specs.Tests.{indicator};
@@ -17,7 +17,7 @@ use obligations::sequence::bindings;
 
 // What a position's set does to its side, in numbers that add up over the positions: how many sets it adds, and how many counts are
 // at their top and can't be raised, each 0 or 1. `topped` is a number, and no `bool`, because the definition counts
-// (`topped_counts`).
+// (`topped_sides`).
 #[derive(Clone, Copy)]
 struct Added {
     sets: u32,
@@ -63,8 +63,7 @@ fn gain_in(net: &mut Net, words: &[u32]) -> Result<u32, Refused>
 
 // Puts m on activity a's side and counts its use. A put that refuses is answered as a full side: misplaced sets were refused before.
 fn gain_set(sides: &mut Sides, empty: u32, a: u32, m: u32) -> Result<Added, Refusal>
-    requires orderly { OrderlySides sides.old.masks sides.old.lengths empty }
-    requires counts_long { length sides.old.counts ≡ places }
+    requires orderly { OrderlySides sides.old empty }
     requires activity { a < activities }
     ensures { SetGained sides.old empty a m result sides.new }
 {

@@ -15,7 +15,7 @@ use Rattle.obligations.specs.Sets.{member, single, union, minus, size}
 use Rattle.obligations.proofs.BoolLaws.{false-not-true, same_test, or_left, or_right, or_cases}
 use Rattle.obligations.proofs.SetLaws.{member-single, member_union, member-minus, member-with, union_lt, minus_lt}
 use Rattle.net.specs.Refusals.{accepted}
-use Rattle.net.specs.Sides.{masks_of, lengths_of, opposite, sets_on}
+use Rattle.net.specs.Sides.{sides_of, lengths_of, opposite, sets_on}
 use Rattle.net.specs.declared.Net.{Net}
 use Rattle.net.specs.declared.sides.Side.{Side}
 use Rattle.net.specs.declared.sides.Side.TheVariants.{Input, Output}
@@ -56,7 +56,7 @@ named_rows_lem f k =
 
 -- the rows of those named on a net's sides
 abbrev pub rows_on : Net → Side → List ℕ
-rows_on net side = named_rows (masks_of net side) (lengths_of net side)
+rows_on net side = named_rows (sides_of net side)
 
 -- the activities with a set on a net's sides of one kind, with those named in one
 abbrev pub set_on : Net → Side → ℕ

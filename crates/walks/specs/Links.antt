@@ -1,8 +1,9 @@
--- What the parts of the check compute, from the arrays of masks and lengths.
+-- What the parts of the check compute, from the sides of a kind.
 use Rattle.std.specs.Prelude.{ℕ, ◌≡◌, not, ◌&&◌, List, eqb, get_or, fold, sum_by}
 use Rattle.obligations.specs.Limits.{activities}
 use Rattle.obligations.specs.Sets.{member, union, minus, size}
-use Rattle.net.specs.Sides.{side_in}
+use Rattle.net.specs.Sides.{sets_in}
+use Rattle.net.specs.declared.sides.Sides.{Sides}
 use Rattle.walks.specs.Below.{any_below, those}
 use Rattle.walks.specs.Rows.{has, rows, reach}
 use Rattle.walks.specs.declared.Survey.{Survey}
@@ -12,8 +13,8 @@ abbrev pub union_of : List ℕ → ℕ
 union_of sets = fold union 0 sets
 
 -- for each activity those that are named on its side
-unfoldable pub named_rows : List ℕ → List ℕ → List ℕ
-named_rows masks lengths = rows (λ a. union_of (side_in masks lengths a))
+unfoldable pub named_rows : Sides → List ℕ
+named_rows sides = rows (λ a. union_of (sets_in sides a))
 
 -- the members b of a set such that a is in row b
 unfoldable pub linked : ℕ → List ℕ → ℕ → ℕ

@@ -24,7 +24,7 @@ pub fn union_of(masks: &[u32]) -> u32
 // at a later turn. Over `rows.iter_mut().enumerate()` the index would have to be made an activity again, which is no plainer.
 pub fn named_rows(sides: &Sides) -> Rows
     requires { SidesFit sides.now }
-    ensures { result ≡ named_rows sides.now.masks sides.now.lengths }
+    ensures { result ≡ named_rows sides.now }
 {
     let mut rows = [0; LISTS];
     for a in 0..ACTIVITIES {

@@ -1,20 +1,21 @@
--- `check_lent` meets its contract, of a net that is orderly but for its counts: the rows are the net's arcs, the union has the net's activities, and what is told of them is what
--- the check says. Assumes nothing.
+-- `check_lent` meets its contract, of a net that is orderly but for its counts: the rows are the net's arcs, the union has the
+-- net's activities, and what is told of them is what the check says. Assumes nothing.
 use Rattle.std.proofs.Common.{ℕ, List, ap, ◌∙◌}
 use mathlib.Core.Path.{ap₂}
 use Rattle.obligations.specs.Sets.{single, union}
 use Rattle.net.specs.declared.sides.Side.TheVariants.{Input, Output}
 use Rattle.net.specs.Sides.{uncounted}
-use Rattle.net.proofs.OrderlyLaws.{ends_facts, orderly_ends, orderly_arrays}
+use Rattle.net.proofs.OrderlyLaws.{ends_facts, orderly_ends}
+use Rattle.net.proofs.UncountedLaws.{lent_fit}
 use Rattle.walks.specs.Links.{union_of, filled}
 use Rattle.walks.proofs.LinkLaws.{rows_say}
 use Rattle.walks.proofs.check_lent.Goals as goal
 
 pub named_rows-inputs-requires : goal.named_rows-inputs-requires
-named_rows-inputs-requires c = orderly_arrays (uncounted c.args.net.now) c.requires Input
+named_rows-inputs-requires c = lent_fit c.args.net.now c.requires Input
 
 pub named_rows-outputs-requires : goal.named_rows-outputs-requires
-named_rows-outputs-requires c = orderly_arrays (uncounted c.args.net.now) c.requires Output
+named_rows-outputs-requires c = lent_fit c.args.net.now c.requires Output
 
 pub survey_rows-requires : goal.survey_rows-requires
 survey_rows-requires c = let e = ends_facts _ _ (orderly_ends (uncounted c.args.net.now) c.requires) in record { ends_are_activities = (e.0, e.1) }

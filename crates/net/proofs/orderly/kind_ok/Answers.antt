@@ -13,7 +13,7 @@ pub counts_ok-requires : goal.counts_ok-requires
 counts_ok-requires c =
     let m : length c.args.sides.now.masks ≡ places = search rules in
     let l : length c.args.sides.now.lengths ≡ activities = search rules in
-    sides_of_orderly _ _ c.args.empty (record { masks_long = m; lengths_long = l; all_ok = sym c.if-sides_ok.ensures })
+    sides_of_orderly _ c.args.empty (record { masks_long = m; lengths_long = l; all_ok = sym c.if-sides_ok.ensures })
 
 pub returns-then-sides_ok : goal.returns-then-sides_ok
 unfolding kind_ok

@@ -10,26 +10,26 @@ use Rattle.net.proofs.putting.put_counted.Goals as goal
 pub side_end-to-requires : goal.side_end-to-requires
 side_end-to-requires c =
     let s = c.args.sides.now in
-    (c.requires.activity, side_at_most s.masks s.lengths c.args.empty c.requires.orderly c.args.a c.requires.activity)
+    (c.requires.activity, side_at_most s c.args.empty c.requires.orderly c.args.a c.requires.activity)
 
 pub returns-in_err-placed : goal.returns-in_err-placed
 returns-in_err-placed c =
     let p = err_from_is_err_and c.from_residual.result c.from_residual.ensures.1 in
-    rw (p.1, p.2, c.put_side.ensures.counts) (counted_refused _ _ _ _ _ _ _ _ _ c.in_err-placed.ensures.done)
+    rw (p.1, p.2) (counted_refused _ _ _ _ _ _ c.in_err-placed.ensures)
 
 pub insert_at-requires : goal.insert_at-requires
 insert_at-requires c =
     let s = c.args.sides.now in
     let long : length s.counts ≡ places = search rules in
-    let f = room_there s.masks s.lengths c.args.empty c.args.a c.args.m c.requires.orderly c.requires.activity _ _ _ c.in_ok-placed.ensures.done _ c.if-placed.true c.side_end-to.ensures in
-    (f.0, omega (arith, f.1, long, ap length c.put_side.ensures.counts))
+    let f = room_there s c.args.empty c.args.a c.args.m c.requires.orderly c.requires.activity _ _ c.in_ok-placed.ensures _ c.if-placed.true c.side_end-to.ensures in
+    (f.0, omega (arith, f.1, long, ap length c.put_side.ensures.counts_stay))
 
 pub returns-then-placed : goal.returns-then-placed
 returns-then-placed c =
     let s = c.args.sides.now in
     let long : length s.counts ≡ places = search rules in
-    counted_new s.masks s.lengths c.args.empty c.args.a c.args.m c.requires.orderly c.requires.activity _ _ _ c.in_ok-placed.ensures.done _ c.if-placed.true c.side_end-to.ensures s.counts _ long (rw (← c.put_side.ensures.counts) c.insert_at.ensures)
+    counted_new s c.args.empty c.args.a c.args.m c.requires.orderly c.requires.activity _ _ c.in_ok-placed.ensures _ c.if-placed.true c.side_end-to.ensures long _ c.insert_at.ensures
 
 pub returns-else-placed : goal.returns-else-placed
 returns-else-placed c =
-    rw c.put_side.ensures.counts (counted_present _ _ _ _ _ _ _ _ _ c.in_ok-placed.ensures.done c.if-placed.false)
+    counted_present _ _ _ _ _ _ c.in_ok-placed.ensures c.if-placed.false

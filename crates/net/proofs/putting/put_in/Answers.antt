@@ -30,8 +30,8 @@ pub returns-in_err-placed : goal.returns-in_err-placed
 returns-in_err-placed c =
     let p = err_from_is_err_and c.from_residual.result c.from_residual.ensures.1 in
     rw p.1
-    (put_done c.args.net.now c.args.side c.args.a c.args.m _ _ _ _ _ (sym c.if-not-is_orderly.ensures) c.if-a-ge-ACTIVITIES.false (rw p.2) (rw (c.sides_mut.ensures.value, c.empty_at-empty.ensures) at c.in_err-placed.ensures))
+    (put_done c.args.net.now c.args.side c.args.a c.args.m _ _ _ (sym c.if-not-is_orderly.ensures) c.if-a-ge-ACTIVITIES.false (rw p.2) (rw (c.sides_mut.ensures.value, c.empty_at-empty.ensures) at c.in_err-placed.ensures))
 
 pub returns : goal.returns
 returns c =
-    put_done c.args.net.now c.args.side c.args.a c.args.m _ _ _ _ _ (sym c.if-not-is_orderly.ensures) c.if-a-ge-ACTIVITIES.false refl (rw (c.sides_mut.ensures.value, c.empty_at-empty.ensures) at c.in_ok-placed.ensures)
+    put_done c.args.net.now c.args.side c.args.a c.args.m _ _ _ (sym c.if-not-is_orderly.ensures) c.if-a-ge-ACTIVITIES.false refl (rw (c.sides_mut.ensures.value, c.empty_at-empty.ensures) at c.in_ok-placed.ensures)

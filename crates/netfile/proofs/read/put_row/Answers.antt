@@ -12,9 +12,9 @@ returns-in_err-put_side c =
     let s = c.put_side in
     let p = err_from_is_err_and c.from_residual.result c.from_residual.ensures.1 in
     rw (p.1, p.2)
-    (row_refused c.args.net.now c.args.row c.requires.orderly c.requires.uncounted c.requires.activity s.result s.new.sides (rw (c.sides_mut.ensures.value, c.empty_at-empty.ensures) at s.ensures.done) (rw c.sides_mut.ensures.value at s.ensures.counts) c.in_err-put_side.field-0.0 c.in_err-put_side.was)
+    (row_refused c.args.net.now c.args.row c.requires.orderly c.requires.uncounted c.requires.activity s.result s.new.sides (rw (c.sides_mut.ensures.value, c.empty_at-empty.ensures) at s.ensures) c.in_err-put_side.field-0.0 c.in_err-put_side.was)
 
 pub returns : goal.returns
 returns c =
     let s = c.put_side in
-    row_put c.args.net.now c.args.row c.requires.orderly c.requires.uncounted c.requires.activity s.result s.new.sides (rw (c.sides_mut.ensures.value, c.empty_at-empty.ensures) at s.ensures.done) (rw c.sides_mut.ensures.value at s.ensures.counts) c.in_ok-put_side.field-0 c.in_ok-put_side.was
+    row_put c.args.net.now c.args.row c.requires.orderly c.requires.uncounted c.requires.activity s.result s.new.sides (rw (c.sides_mut.ensures.value, c.empty_at-empty.ensures) at s.ensures) c.in_ok-put_side.field-0 c.in_ok-put_side.was

@@ -11,9 +11,6 @@ loop-binding-init c = (tt, tt, gaining_start c.args.net.now (bindings c.args.wor
 pub gain_set-requires-clause-orderly : goal.gain_set-requires-clause-orderly
 gain_set-requires-clause-orderly c = c.loop-binding.invariant.2.inputs_orderly
 
-pub gain_set-requires-clause-counts_long : goal.gain_set-requires-clause-counts_long
-gain_set-requires-clause-counts_long c = c.loop-binding.invariant.2.input_counts_long
-
 pub gain_set-requires-clause-activity : goal.gain_set-requires-clause-activity
 gain_set-requires-clause-activity c = gaining_activity _ _ _ _ _ _ c.loop-binding.invariant.2 _ _ c.in-Some.ensures.steps
 
@@ -24,9 +21,6 @@ returns-in_err-input-clause-says c =
 
 pub gain_set-requires-in-loop-binding-clause-orderly : goal.gain_set-requires-in-loop-binding-clause-orderly
 gain_set-requires-in-loop-binding-clause-orderly c = c.loop-binding.invariant.2.outputs_orderly
-
-pub gain_set-requires-in-loop-binding-clause-counts_long : goal.gain_set-requires-in-loop-binding-clause-counts_long
-gain_set-requires-in-loop-binding-clause-counts_long c = c.loop-binding.invariant.2.output_counts_long
 
 pub returns-in_err-output-clause-says : goal.returns-in_err-output-clause-says
 returns-in_err-output-clause-says c =
