@@ -1,7 +1,8 @@
 // The test of an orderly net record.
 
-ghost use Rattle.std.specs.Prelude.{◌≡◌, true, length};
+ghost use Rattle.std.specs.Prelude.{◌≡◌, ◌≤◌, true, length, drop};
 ghost use Rattle.net.specs.Limits.{sets};
+ghost use Rattle.net.specs.Lists.{zeros};
 ghost use Rattle.net.specs.Inner.{SidesFit};
 ghost use Rattle.net.specs.Orderly.{block_ok, sides_ok, counts_ok, kind_ok, sides_sized, ends_ok, orderly};
 
@@ -54,8 +55,8 @@ fn counts_ok(sides: &Sides) -> bool
 {
     (0..ACTIVITIES).all(|a| {
         let from = (SETS * a) as usize;
-        let used = from + sides.lengths[a as usize] as usize;
-        lists::all_zero(&sides.counts[used..from + SETS as usize])
+        let to = from + SETS as usize;
+        unused_zero(&sides.counts[from..to], sides.lengths[a as usize])
     })
 }
 
@@ -70,6 +71,17 @@ fn block_ok(block: &[u32], n: u32, only: bool) -> bool
     if n > SETS {
         return false;
     }
-    let (used, unused) = block.split_at(n as usize);
-    lists::ascends(used) && lists::all_zero(unused)
+    lists::ascends(&block[..n as usize]) && unused_zero(block, n)
+}
+
+// Whether the places of a side past its n sets are zero.
+fn unused_zero(block: &[u32], n: u32) -> bool
+    requires { n ≤ length block.now }
+    ensures { result ≡ zeros (drop n block.now) }
+{
+    // Most sides are empty, and a test of all 16 places has no loop: they are four vectors.
+    if n == 0 {
+        return lists::all_zero(block);
+    }
+    lists::all_zero(&block[n as usize..])
 }

@@ -18,11 +18,8 @@ returns-then-n-gt-SETS c = rw (c.if-only.false, lt-leb _ _ c.if-n-gt-SETS.true)
 
 pub returns-then-ascends : goal.returns-then-ascends
 unfolding block_ok
-returns-then-ascends c =
-    let s = c.split_at.ensures in
-    rw (c.if-only.false, le-leb _ _ c.if-n-gt-SETS.false, ← s.front, ← c.if-ascends.ensures, ← s.back) c.all_zero-then-ascends.ensures
+returns-then-ascends c = rw (c.if-only.false, le-leb _ _ c.if-n-gt-SETS.false, ← c.if-ascends.ensures) c.unused_zero.ensures
 
 pub returns-else-ascends : goal.returns-else-ascends
 unfolding block_ok
-returns-else-ascends c =
-    rw (c.if-only.false, le-leb _ _ c.if-n-gt-SETS.false, ← c.split_at.ensures.front, ← c.if-ascends.ensures) c.if-ascends.false
+returns-else-ascends c = rw (c.if-only.false, le-leb _ _ c.if-n-gt-SETS.false, ← c.if-ascends.ensures) c.if-ascends.false
