@@ -18,7 +18,7 @@ use Rattle.net.specs.Limits.{places, most_uses}
 use Rattle.net.specs.Refusals.{Says, accepted, refused, refusal_number}
 use Rattle.net.specs.Sides.{net_size, place_on}
 use Rattle.net.specs.Inner.{OrderlySides, CountedDone}
-use Rattle.net.specs.Orderly.{sides_ok, orderly}
+use Rattle.net.specs.Orderly.{orderly}
 use Rattle.net.specs.Put.{side_says, put_sides}
 use Rattle.net.specs.declared.Net.{Net}
 use Rattle.net.specs.declared.putting.Placed.{Placed}
@@ -26,12 +26,13 @@ use Rattle.net.specs.declared.refusal.Refusal.{Refusal}
 use Rattle.net.specs.declared.refusal.Refusal.TheVariants.{FullSide}
 use Rattle.net.specs.declared.sides.Sides.{Sides}
 use Rattle.net.specs.declared.sides.Side.TheVariants.{Input, Output}
-use Rattle.net.proofs.PutSideLaws.{place_below, put_side-total, put_side_orderly, side_value}
+use Rattle.net.proofs.PutSideLaws.{place_below, put_side-total, side_value}
 use Rattle.net.proofs.OrderlyLaws.{orderly_sides}
 use Rattle.sequences.specs.Gain.{raised_at, topped_at, used_sides, topped_sides, with_use, takes_put, topped_use, with_binding, takes_binding, topped_binding, gained, fits, topped}
 use Rattle.sequences.specs.Learn.{gain_says, new_sets}
 use Rattle.sequences.specs.Inner.{gained_by, SetGained}
 use Rattle.sequences.specs.declared.gaining.Added.{Added}
+use Rattle.sequences.proofs.UseLaws.{used_orderly}
 use Rattle.sequences.proofs.GrowthLaws.{Activities}
 
 -- ---- what a set adds
@@ -99,10 +100,8 @@ module _ (sides : Sides) (empty a m : ℕ) where
     used_are : sides' ≡ used_sides sides empty a m
     used_are = d.sides_are taken.0
 
-    used_orderly : OrderlySides sides empty → a < activities → OrderlySides sides' empty
-    unfolding sides_ok
-    used_orderly o h =
-        let p = put_side_orderly sides empty a m o h in rw used_are (record { masks_long = p.masks_long; lengths_long = p.lengths_long; all_ok = p.all_ok })
+    still_orderly : OrderlySides sides empty → a < activities → OrderlySides sides' empty
+    still_orderly o h = rw used_are (used_orderly sides empty a m o h)
 
 -- ---- the loop
 
@@ -196,8 +195,8 @@ module _ (net : Net) (s : List Binding) (now : Net) (rest : List Binding) (new t
             let yt = one_top now.outputs now.end b.activity b.output y outputs dy in
             let n : length rest ≡ length rest' + 1 = ap length e ∙ omega arith in
             record {
-              inputs_orderly = used_orderly now.inputs now.start b.activity b.input x inputs dx g.inputs_orderly gaining_activity;
-              outputs_orderly = used_orderly now.outputs now.end b.activity b.output y outputs dy g.outputs_orderly gaining_activity;
+              inputs_orderly = still_orderly now.inputs now.start b.activity b.input x inputs dx g.inputs_orderly gaining_activity;
+              outputs_orderly = still_orderly now.outputs now.end b.activity b.output y outputs dy g.outputs_orderly gaining_activity;
               activities_only = λ i h. (rw e at g.activities_only) (suc i) (omega arith);
               gained_rest = g.gained_rest ∙ ap (gained now) e ∙ ap (λ (k : Net). gained k rest') (sym next_is);
               fits_rest = g.fits_rest ∙ ap (fits now) e ∙ rw (tx.0, ty.0) (ap (λ (k : Net). fits k rest') (sym next_is));

@@ -19,7 +19,7 @@ use Rattle.net.specs.Limits.{most_uses}
 use Rattle.net.specs.Lists.{listed}
 use Rattle.net.specs.Sides.{sides_of, empty_at, opposite, sets_in, counts_in, sets_on, counts_on, count_in, count_of, OnSide, net_size, place_on}
 use Rattle.net.specs.Inner.{OrderlySides}
-use Rattle.net.specs.Orderly.{sides_ok, orderly}
+use Rattle.net.specs.Orderly.{orderly}
 use Rattle.net.specs.Put.{put_says, put_sides, with_sides, put_gives}
 use Rattle.net.specs.Contained.{Contained}
 use Rattle.net.specs.declared.Net.{Net}
@@ -33,7 +33,7 @@ use Rattle.net.proofs.WithSidesLaws.{with_start, with_end, with_own, with_orderl
 use Rattle.net.proofs.PutLaws.{put_says_side, put_gives_sides, put_refused, put_on_side, put_size}
 use Rattle.net.proofs.ContainedLaws.{contained-refl, contained_trans, put-contained}
 use Rattle.sequences.specs.Gain.{raised_at, topped_at, used_sides, with_use, takes_put, topped_use, with_binding, takes_binding, topped_binding, gained, fits, set_for, SetOf}
-use Rattle.sequences.proofs.UseLaws.{place_kept, raised_orderly, topped_exactly, raised_count, raised_sum}
+use Rattle.sequences.proofs.UseLaws.{place_kept, raised_orderly, topped_exactly, raised_count, raised_sum, used_orderly}
 
 -- ---- one use
 
@@ -83,17 +83,13 @@ module _ (net : Net) (side : Side) (a m : ℕ) (o : orderly net ≡ true) (h : a
   used_counted : takes_put net side a m ≡ true → OrderlyCounts used
   used_counted k = rw used_counts (raised_orderly put (empty_at net side) a m sides_after counts_after h (there k))
 
-  used_orderly : OrderlySides used (empty_at net side)
-  unfolding sides_ok
-  used_orderly = record { masks_long = sides_after.masks_long; lengths_long = sides_after.lengths_long; all_ok = sides_after.all_ok }
-
   module _ (k : takes_put net side a m ≡ true) where
     said : (put_says net side a m).ok ≡ true
     said = sym takes_put_lem ∙ k
 
     with_use_orderly : orderly (with_use net side a m) ≡ true
     unfolding with_use
-    with_use_orderly = with_orderly net used side o used_orderly (used_counted k)
+    with_use_orderly = with_orderly net used side o (used_orderly (sides_of net side) (empty_at net side) a m (orderly_sides net o side) h) (used_counted k)
 
     with_use_on_side : (t : Side) (b x : ℕ) → OnSide (with_use net side a m) t b x ↔ (OnSide net t b x ⊎ ((t ≡ side) × (b ≡ a) × (x ≡ m)))
     with_use_on_side t b x = rw (same_sets t b) (put_on_side net side a m said t b x)

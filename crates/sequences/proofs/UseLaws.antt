@@ -1,5 +1,5 @@
 -- A use of a set that is on a side: its count is the one at its place, and a raise there adds one to it and to the side's sum, and
--- touches nothing else. A put keeps the set's place. Assumes nothing.
+-- touches nothing else. A put keeps the set's place, and after both every side is as it has to be. Assumes nothing.
 use Prim.Native.Nat.{ℕ, ◌+◌, ◌*◌, ◌-◌, ◌<◌, ◌≤◌}
 use native.Mathlib.Decide.{ℕ_discrete as dec_eq, dec_lt}
 use native.Mathlib.Omega.{arith}
@@ -20,14 +20,15 @@ use Rattle.net.specs.Limits.{sets, most_uses}
 use Rattle.net.specs.Lists.{listed, place_in}
 use Rattle.net.specs.Sides.{block, first_of, sets_in, counts_in, count_in, place_on}
 use Rattle.net.specs.Inner.{OrderlySides}
+use Rattle.net.specs.Orderly.{sides_ok}
 use Rattle.net.specs.Put.{grows, side_says, grown_sides, put_sides}
 use Rattle.net.specs.declared.sides.Sides.{Sides}
 use Rattle.net.proofs.PlaceLaws.{listed-place, count_at, count-raise}
 use Rattle.net.proofs.SideLaws.{OrderlyCounts, counts_past, past_counts, length-first, first-at, side_at_most, side_ascending}
 use Rattle.net.proofs.InsertLaws.{place-insert}
 use Rattle.net.proofs.GrownLaws.{grown_side_same}
-use Rattle.net.proofs.PutSideLaws.{all_at_most, has_room_lem}
-use Rattle.sequences.specs.Gain.{raised_at, topped_at}
+use Rattle.net.proofs.PutSideLaws.{all_at_most, has_room_lem, put_side_orderly}
+use Rattle.sequences.specs.Gain.{raised_at, topped_at, used_sides}
 
 -- ---- a store at place j of activity a
 
@@ -132,3 +133,11 @@ place_kept sides empty a m o h =
   where
     grown : grows (side_says sides empty a m) ≡ true → place_on (grown_sides sides a m) a m ≡ place_on sides a m
     grown g = rw (grown_side_same sides a m h (has_room_lem sides empty a m o h g) o.masks_long (omega (arith, o.lengths_long)), place-insert m (sets_in sides a))
+
+-- ---- a put and a raise
+
+-- after them every side is as it has to be
+pub used_orderly : (sides : Sides) (empty a m : ℕ) → OrderlySides sides empty → a < activities → OrderlySides (used_sides sides empty a m) empty
+unfolding sides_ok
+used_orderly sides empty a m o h =
+    let p = put_side_orderly sides empty a m o h in record { masks_long = p.masks_long; lengths_long = p.lengths_long; all_ok = p.all_ok }
