@@ -8,7 +8,7 @@ use mathlib.Core.Bool.{Bool, true, false, ◌&&◌}
 use mathlib.Core.List.{List, [], ◌∷◌}
 use lib.Dec.{leb, eqb}
 use lib.ListN.{length, take, drop, get_or, length-take, length-drop, get_or-eq_default}
-use lib.Seq.{take-take, drop-drop, get_or-take, get_or-drop}
+use lib.Seq.{take-take, get_or-take, get_or-drop}
 use borrow.Author.Tests.{leb-true, eqb-true, eq-eqb, ne_eqb}
 use Rattle.obligations.specs.Limits.{activities, masks}
 use Rattle.obligations.proofs.BoolLaws.{and_left, and_right}
@@ -22,7 +22,7 @@ use Rattle.net.specs.declared.sides.Side.{Side}
 use Rattle.net.specs.declared.sides.Sides.{Sides}
 use Rattle.net.proofs.BelowLaws.{below_at, below_true}
 use Rattle.net.proofs.PlaceLaws.{Ascending, above_ascending, one_ascends}
-use Rattle.net.proofs.ListLaws.{length_part, drop-take, zeros-at, at_zeros, listed_below}
+use Rattle.net.proofs.ListLaws.{length_part, zeros-at, at_zeros, listed_below}
 
 -- counts as many as the record's, with 0 past each side's sets
 pub record OrderlyCounts (sides : Sides) : Type 0 where
@@ -50,12 +50,6 @@ zero-past l a n long h f =
     (λ i u.
     let k : n + i < sets = omega (arith, length_part l (sets * a) sets (omega arith), simp length-drop at u) in
     get_or-drop n (block l a) i 0 ∙ block_at l a (n + i) k ∙ f (n + i) (omega arith) k)
-
--- they are the part from the n-th place of activity a to its last, and are none if n is above 16
-pub past_part : (l : List ℕ) (a n : ℕ) → take (sets * a + sets - (sets * a + n)) (drop (sets * a + n) l) ≡ drop n (block l a)
-past_part l a n =
-    let e : sets * a + sets - (sets * a + n) ≡ sets - n = omega arith in
-    rw (e, drop-take n sets (drop (sets * a) l), drop-drop n (sets * a) l)
 
 pub length-block : (l : List ℕ) (a : ℕ) → length l ≡ places → a < activities → length (block l a) ≡ sets
 length-block l a long h = length_part l (sets * a) sets (omega arith)

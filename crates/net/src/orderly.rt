@@ -1,12 +1,14 @@
 // The test of an orderly net record.
 
-ghost use Rattle.std.specs.Prelude.{◌≡◌, ◌≤◌, true, length, drop};
+ghost use Rattle.std.specs.Prelude.{◌≡◌, ◌<◌, ◌≤◌, true, length, drop};
+ghost use Rattle.obligations.specs.Limits.{activities};
 ghost use Rattle.net.specs.Limits.{sets};
 ghost use Rattle.net.specs.Lists.{zeros};
+ghost use Rattle.net.specs.Sides.{block};
 ghost use Rattle.net.specs.Inner.{SidesFit};
 ghost use Rattle.net.specs.Orderly.{block_ok, sides_ok, counts_ok, kind_ok, sides_sized, ends_ok, orderly};
 
-use crate::{Net, SETS, Sides, lists};
+use crate::{Net, PLACES, SETS, Sides, lists};
 use obligations::ACTIVITIES;
 
 // Whether a net record is orderly. Each call asks this of its nets, since their words may be any. The functions behind it have it as a
@@ -41,10 +43,8 @@ fn sides_ok(sides: &Sides, empty: u32) -> bool
     ensures { result ≡ sides_ok sides.now empty }
 {
     (0..ACTIVITIES).all(|a| {
-        let from = (SETS * a) as usize;
-        let to = from + SETS as usize;
         let n = sides.lengths[a as usize];
-        block_ok(&sides.masks[from..to], n, a == empty)
+        block_ok(block(&sides.masks, a), n, a == empty)
     })
 }
 
@@ -53,11 +53,17 @@ fn counts_ok(sides: &Sides) -> bool
     requires { SidesFit sides.now }
     ensures { result ≡ counts_ok sides.now }
 {
-    (0..ACTIVITIES).all(|a| {
-        let from = (SETS * a) as usize;
-        let to = from + SETS as usize;
-        unused_zero(&sides.counts[from..to], sides.lengths[a as usize])
-    })
+    (0..ACTIVITIES).all(|a| unused_zero(block(&sides.counts, a), sides.lengths[a as usize]))
+}
+
+// The 16 places of activity a, among those of masks or of counts.
+fn block(places: &[u32; PLACES], a: u32) -> &[u32]
+    requires { a < activities }
+    ensures block { result.now ≡ block places.now a }
+    ensures long { length result.now ≡ sets }
+{
+    let from = (SETS * a) as usize;
+    &places[from..from + SETS as usize]
 }
 
 // Whether the 16 places of a side with n sets are as they have to be; only: the side has to hold just the empty set.
@@ -79,7 +85,7 @@ fn unused_zero(block: &[u32], n: u32) -> bool
     requires { n ≤ length block.now }
     ensures { result ≡ zeros (drop n block.now) }
 {
-    // Most sides are empty, and a test of all 16 places has no loop: they are four vectors.
+    // Most sides are empty, and of all 16 places the compiler makes a test without a loop, of four vectors.
     if n == 0 {
         return lists::all_zero(block);
     }

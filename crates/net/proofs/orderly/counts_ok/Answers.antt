@@ -7,12 +7,11 @@ use Rattle.net.specs.Lists.{zeros}
 use Rattle.net.specs.Sides.{block}
 use Rattle.net.specs.Orderly.{counts_ok}
 use Rattle.net.proofs.BelowLaws.{below_list}
-use Rattle.net.proofs.SideLaws.{past_part}
 use Rattle.net.proofs.orderly.counts_ok.Goals as goal
 
 pub returns : goal.returns
 unfolding counts_ok
 returns c =
     let s = c.args.sides.now in
-    all_from_yields_List (λ k. zeros (drop (get_or s.lengths k 0) (block s.counts k))) _ _ c.all.result c.all.ensures.ran (YieldsList-from_range 0 activities activities refl refl) (λ x b q h. search (rules, past_part s.counts x (get_or s.lengths x 0)))
+    all_from_yields_List (λ k. zeros (drop (get_or s.lengths k 0) (block s.counts k))) _ _ c.all.result c.all.ensures.ran (YieldsList-from_range 0 activities activities refl refl) (λ x b q h. search rules)
     ∙ below_list activities _
