@@ -1,13 +1,16 @@
 -- The step said of each pair (p, q), as 000's ψ says it, and possible said of each member. The places of a binding's inputs
 -- are one row of the state and those of its outputs one column, so a pair is selected as often as a bit says. Every place of a
 -- state is that of one pair of activities, so that all counts are zero exactly if those of all pairs are. Assumes nothing.
-use Rattle.std.proofs.Common.{ℕ, ◌+◌, ◌-◌, ◌*◌, ◌/◌, ◌%◌, ◌≤◌, ◌<◌, ◌≡◌, ap, ap₂, subst, ◌∙◌, ⊎_elim, true, ◌&&◌, List, arith, eq-eqb, ne_eqb, eqb, lit<, length, get_or}
-use Rattle.obligations.specs.Sets.{member}
-use Rattle.obligations.specs.State.{count, inputs, outputs, possible, after, all_zero}
+use Rattle.std.proofs.Common.{ℕ, ◌+◌, ◌-◌, ◌*◌, ◌/◌, ◌%◌, ◌≤◌, ◌<◌, ◌^◌, ◌≡◌, ap, ap₂, subst, ◌∙◌, ⊎_elim, true, not, ◌&&◌, List, arith, eq-eqb, ne_eqb, eqb, lit<, length, take, drop, get_or, get_or-take, get_or-drop, sym}
+use Rattle.std.proofs.lemmas.Bool.{eqb-false, not-true}
+use Rattle.obligations.specs.Limits.{activities}
+use Rattle.obligations.specs.Sets.{member, subset}
+use Rattle.obligations.specs.State.{count, inputs, outputs, Causes, possible, after, all_zero}
 use Rattle.obligations.specs.Sequence.{NothingLeft}
 use Rattle.obligations.specs.Tests.{indicator}
+use Rattle.obligations.proofs.BoolLaws.{same_test}
 use Rattle.obligations.proofs.BitLaws.{same, same_cases}
-use Rattle.obligations.proofs.SetLaws.{member-bit, bit-member, bit-indicator}
+use Rattle.obligations.proofs.SetLaws.{member-bit, bit-member, bit-indicator, member-activity, subset-members, members-subset}
 use Rattle.obligations.proofs.PlaceLaws.{occ, places_at, places_off, places_found, due_at, due_all}
 use Rattle.obligations.proofs.StateLaws.{after-at, zero-at, at_zero}
 
@@ -59,6 +62,22 @@ count-possible d a x h = due_all d (inputs a x) (λ j o.
     let f = places_found (a * 32) 1 x j o in
     let e = f.2 in
     subst (λ (i : ℕ). 1 ≤ get_or d i 0) (omega arith) (h f.0 f.1 (bit-member x f.0 f.3)))
+
+-- those because of which a is due are read off its row of counts
+pub row_causes : (d : List ℕ) (a s n : ℕ) → n ≡ activities → ((p : ℕ) → p < activities → member s p ≡ not (eqb (get_or (take n (drop (a * activities) d)) p 0) 0)) → Causes d a s
+unfolding count
+row_causes d a s n e f p h =
+    let here : member s p ≡ not (eqb (get_or d (a * activities + p) 0) 0) =
+    f p h ∙ ap (λ (c : ℕ). not (eqb c 0)) (get_or-take n (drop (a * activities) d) p 0 (omega arith) ∙ get_or-drop (a * activities) d p 0) in (
+      (λ m. let c = eqb-false (get_or d (a * activities + p) 0) 0 (not-true _ (sym here ∙ m)) in omega arith),
+      (λ l. here ∙ rw (ne_eqb (get_or d (a * activities + p) 0) 0 (omega arith))),
+    )
+
+-- so all of x are among those because of which a is due
+pub subset_possible : (d : List ℕ) (a x s : ℕ) → x < 2 ^ 32 → s < 2 ^ 32 → Causes d a s → subset x s ≡ possible d a x
+subset_possible d a x s hx hs c =
+    same_test (subset x s) (possible d a x) (λ e. count-possible d a x (λ p h m. (c p h).0 (subset-members x s hx hs e p m)))
+    (λ e. members-subset x s hx hs (λ p m. let h = member-activity x p hx m in (c p h).1 (possible-count d a x e p h m)))
 
 -- ---- all counts zero, said of each pair
 

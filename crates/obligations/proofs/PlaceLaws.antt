@@ -1,8 +1,6 @@
 -- Laws of places in a state: how often a set selects a place, what one less or one more at each selected place makes of
 -- the counts, and one turn of the walk over a set's members. No place is selected twice. Assumes nothing.
-use Rattle.std.proofs.Common.{◌^◌, ℕ, zero, suc, ◌+◌, ◌-◌, ◌*◌, ◌/◌, ◌%◌, ◌≤◌, ◌<◌, ◌≡◌, refl, sym, ap, subst, ◌∙◌, ◌⊎◌, inl, inr, ⊎_elim, true, false, List, [], ◌∷◌, map, mod-lt, mul-le-mul_right, eq-zero-or-pos, arith, le-leb, leb-true, leb, lit<, length, get_or, set, length-set}
-use lib.Count.{count_trailing_zeros}
-use Rattle.std.proofs.Common.{bit_and}
+use Rattle.std.proofs.Common.{ℕ, zero, suc, ◌+◌, ◌-◌, ◌*◌, ◌/◌, ◌%◌, ◌≤◌, ◌<◌, ◌≡◌, refl, sym, ap, subst, ◌∙◌, ◌⊎◌, inl, inr, ⊎_elim, true, List, [], ◌∷◌, map, mod-lt, mul-le-mul_right, eq-zero-or-pos, arith, le-leb, leb-true, leb, lit<, length, get_or, set, length-set}
 use mathlib.Core.List.Memᴰ
 use lib.ListN.{length-map, get_or-eq_default}
 use Rattle.obligations.specs.Sets.{bit, single, keep, members_from, members, size}
@@ -11,7 +9,7 @@ use Rattle.obligations.specs.State.{all_due, lowered, raised, State, most_due}
 use Rattle.obligations.proofs.BoolLaws.{and_left, and_right, and_both}
 use Rattle.obligations.proofs.BitLaws.{bit_lt, bit-zero, bit-suc, same, same_refl, same_cases, same_ne}
 use Rattle.obligations.proofs.SetLaws.{lt_or_le}
-use Rattle.obligations.proofs.MemberLaws.{members_walk, members_none, members-single, members_are}
+use Rattle.obligations.proofs.MemberLaws.{members_none, members-single, members_are}
 
 -- how often a place stands among places
 unfoldable pub occ : ℕ → List ℕ → ℕ
@@ -88,14 +86,6 @@ room_head d i is h = omega (arith, h i, same_refl i)
 pub room_next : (d : List ℕ) (i : ℕ) (is : List ℕ) → Room d (i ∷ is) → Room (set d i (get_or d i 0 + 1)) is
 unfolding Room occ
 room_next d i is h j = omega (arith, h j, raise_le d i j)
-
-pub due_stop : (d : List ℕ) (i : ℕ) (is : List ℕ) → get_or d i 0 ≡ 0 → all_due d (i ∷ is) ≡ false
-unfolding all_due
-due_stop d i is e = rw e
-
-pub due_next : (d : List ℕ) (i : ℕ) (is : List ℕ) → (get_or d i 0 ≡ 0 → ⊥) → all_due d (i ∷ is) ≡ all_due d is
-unfolding all_due
-due_next d i is ne = rw (le-leb 1 (get_or d i 0) (omega arith))
 
 -- all are due exactly if each place that is selected has a count of at least 1
 pub due_at : (d is : List ℕ) → all_due d is ≡ true → (j : ℕ) → 0 < occ j is → 1 ≤ get_or d j 0
@@ -231,12 +221,6 @@ places_next base stride m k n e = ap (map (λ (i : ℕ). base + i * stride)) e
 pub places_end : (base stride m : ℕ) → members m ≡ [] → places_of base stride m ≡ []
 unfolding places_of
 places_end base stride m e = ap (map (λ (i : ℕ). base + i * stride)) e
-
--- one turn of a walk over places side by side, by `rest &= rest - 1`
-pub row_next : (base m : ℕ) → (m ≡ 0 → ⊥) → m < 2 ^ 32 → places_of base 1 m ≡ (base + count_trailing_zeros 32 m) ∷ places_of base 1 (bit_and m (m - 1))
-row_next base m ne h =
-    let k : base + count_trailing_zeros 32 m * 1 ≡ base + count_trailing_zeros 32 m = omega arith in
-    places_next base 1 m (count_trailing_zeros 32 m) (bit_and m (m - 1)) (members_walk m (omega arith) h) ∙ ap (λ (i : ℕ). i ∷ places_of base 1 (bit_and m (m - 1))) k
 
 pub place_fits : (base stride k : ℕ) → base + 31 * stride < 1024 → k < 32 → base + k * stride < 1024
 place_fits base stride k h l = let s : k * stride ≤ 31 * stride = mul-le-mul_right stride (omega arith) in omega arith

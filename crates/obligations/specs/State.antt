@@ -1,6 +1,7 @@
 -- The state of pending obligations and the step of a binding (01, "Obligations and the step"; 02, (i)).
-use Rattle.std.specs.Prelude.{ℕ, ◌+◌, ◌-◌, ◌*◌, ◌≤◌, ◌≡◌, Bool, true, cond, ◌&&◌, List, [], ◌∷◌, leb, eqb, get_or, set, length, replicate, Option, Some, None}
+use Rattle.std.specs.Prelude.{ℕ, ◌+◌, ◌-◌, ◌*◌, ◌≤◌, ◌<◌, ◌≡◌, ◌↔◌, Bool, true, cond, ◌&&◌, List, [], ◌∷◌, leb, eqb, get_or, set, length, replicate, Option, Some, None}
 use Rattle.obligations.specs.Limits.{activities, pairs}
+use Rattle.obligations.specs.Sets.{member}
 use Rattle.obligations.specs.Places.{places_of}
 use Rattle.obligations.specs.declared.places.Places.{Places}
 
@@ -38,6 +39,10 @@ lowered d (i ∷ is) = lowered (set d i (get_or d i 0 - 1)) is
 unfoldable pub raised : List ℕ → List ℕ → List ℕ
 raised d [] = d
 raised d (i ∷ is) = raised (set d i (get_or d i 0 + 1)) is
+
+-- s is the set of those because of which a is due: of the p with a count of (p, a) of at least 1
+abbrev pub Causes : List ℕ → ℕ → ℕ → Type 0
+Causes d a s = (p : ℕ) → p < activities → (member s p ≡ true) ↔ (1 ≤ count d p a)
 
 -- a binding of a with the input set x is possible: every (p, a) with p in x has a count of at least 1
 unfoldable pub possible : List ℕ → ℕ → ℕ → Bool

@@ -1,7 +1,7 @@
--- `is_possible` meets its contract: the places of the inputs stand side by side. Assumes nothing.
-use Rattle.obligations.specs.State.{inputs, possible}
+-- `is_possible` meets its contract: the set is among those because of which the activity is due. Assumes nothing.
+use Rattle.std.proofs.Common.{◌∙◌}
+use Rattle.obligations.proofs.CountLaws.{subset_possible}
 use Rattle.obligations.proofs.state.Due.is_possible.Goals as goal
 
 pub returns : goal.returns
-unfolding possible inputs
-returns c = let e = c.all_due.ensures in cc
+returns c = c.is_subset.ensures ∙ subset_possible c.args.self.now c.args.a c.args.x c.causes.result c.ranges.x.fits c.causes.type_inv c.causes.ensures
