@@ -6,7 +6,7 @@
 mod line;
 
 ghost use Rattle.std.specs.Prelude.{◌≡◌, ◌≤◌, length, MatchResult};
-ghost use Rattle.net.specs.Refusals.{refused_at};
+ghost use Rattle.net.specs.Refusals.{with_place};
 ghost use Rattle.net.specs.declared.refusal.Refusal.TheVariants.{LineForm};
 ghost use Rattle.logfile.specs.LogFile.{RowRead, read_row, sizes_ok};
 ghost use Rattle.logfile.specs.Cursor.{start, standing, NextRead};
@@ -105,7 +105,7 @@ pub fn start() -> Cursor
 
 // Where a reader at a cursor starts: past the header, if that is the cursor's line. A cursor past the text's end stands at its end.
 fn begin(text: &[u8], cursor: Cursor) -> Result<Cursor, Refused>
-    ensures { MatchResult result (λ c. (begun text.now (standing text.now cursor) cursor.line ≡ Some c) × (c.at ≤ length text.now)) (λ r. (r ≡ refused_at LineForm 1) × (begun text.now (standing text.now cursor) cursor.line ≡ None)) }
+    ensures { MatchResult result (λ c. (begun text.now (standing text.now cursor) cursor.line ≡ Some c) × (c.at ≤ length text.now)) (λ r. (r ≡ with_place LineForm 1) × (begun text.now (standing text.now cursor) cursor.line ≡ None)) }
 {
     let at = cursor.at.min(text.len());
     if 1 < cursor.line {

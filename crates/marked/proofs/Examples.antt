@@ -14,11 +14,11 @@ use Rattle.obligations.specs.State.{inputs, outputs, all_due, lowered, raised, p
 use Rattle.obligations.specs.Trace.{first_no_activity, ends_agree, shaped}
 use Rattle.obligations.specs.Sequence.{bindings, words, run, possible_at, first_impossible}
 use Rattle.obligations.specs.Examples.{fig4, trip}
-use Rattle.net.specs.Refusals.{refused_at}
+use Rattle.net.specs.Refusals.{with_place}
 use Rattle.net.specs.declared.refusal.Refusal.TheVariants.{OutsideLimits, NoActivity, WrongEnds, WronglyEmpty, NotPossible, LeftOver, FullSide, CountTooHigh}
 use Rattle.net.specs.Limits.{most_uses}
 use Rattle.net.specs.Lists.{all_below, listed, all_listed, ascends_above, zeros, insert, insert_at, place_in}
-use Rattle.net.specs.Sides.{uncounted, sets_on, counts_on}
+use Rattle.net.specs.Sides.{with_counts, uncounted, sets_on, counts_on}
 use Rattle.net.specs.Orderly.{ends_ok, block_ok, sides_ok, sized, orderly, counts_ok, kind_ok}
 use Rattle.net.specs.Fresh.{fresh_net, fresh_gives}
 use Rattle.net.specs.Examples.{F, travel}
@@ -83,8 +83,8 @@ F-counts = (refl, refl, refl, refl, refl)
 
 -- F in which 2 on the output side of 0 has the highest count: a session that uses it is refused by 21, and one that doesn't is not
 F-worn :
-    answers (with_sides F Output (record { masks = F.outputs.masks; lengths = F.outputs.lengths; counts = set F.outputs.counts 0 most_uses })) (follow (0 ∷ 1 ∷ 3 ∷ []) ∷ follow (0 ∷ 2 ∷ 3 ∷ []) ∷ [])
-    ≡ map learn_means (Err (refused_at CountTooHigh 0) ∷ Ok 0 ∷ [])
+    answers (with_sides F Output (with_counts F.outputs (set F.outputs.counts 0 most_uses))) (follow (0 ∷ 1 ∷ 3 ∷ []) ∷ follow (0 ∷ 2 ∷ 3 ∷ []) ∷ [])
+    ≡ map learn_means (Err (with_place CountTooHigh 0) ∷ Ok 0 ∷ [])
 unfolding learn_says learn_gives within_limits words_within bindings first_no_activity first_failing first_from learn_positions shaped ends_agree first_wrongly_empty empty_agree first_impossible possible_at possible run after taken added inputs outputs places_of members members_from keep all_due lowered raised all_zero fits takes_binding takes_put with_binding with_use gained topped topped_binding topped_use topped_at raised_at side_says misplaced listed insert insert_at place_in grows put_sides total fresh_net orderly sized ends_ok sides_ok block_ok counts_ok kind_ok all_below ascends_above zeros follow_says follow_gives trace_within_limits follow_positions followed_from single F answers
 F-worn = refl
 
@@ -104,7 +104,7 @@ nets :
     let net = grown (fresh_net 0 4) calls in
     let larger = grown (fresh_net 0 4) more in
     let other = grown (fresh_net 0 4) others in
-    (answers (fresh_net 0 4) calls ≡ map learn_means (Ok 12 ∷ Err (refused_at NotPossible 2) ∷ Err (refused_at WrongEnds 0) ∷ Ok 0 ∷ []))
+    (answers (fresh_net 0 4) calls ≡ map learn_means (Ok 12 ∷ Err (with_place NotPossible 2) ∷ Err (with_place WrongEnds 0) ∷ Ok 0 ∷ []))
     × (map check_says (net ∷ larger ∷ other ∷ []) ≡ map check_means (Ok 7 ∷ Ok 8 ∷ Ok 1 ∷ []))
     × (contained_says net larger ≡ contained_means (Ok true))
     × (contained_says net other ≡ contained_means (Ok false))
@@ -134,7 +134,7 @@ busy =
 
 -- each way adds four sets, the first way again none, and after the refused calls the start's output side is what it was
 full :
-    (answers (fresh_net 0 31) busy ≡ map learn_means (replicate 16 (Ok 4) ++ (Err (refused_at FullSide 0) ∷ Err (refused_at OutsideLimits 0) ∷ Err (refused_at OutsideLimits 0) ∷ Err (refused_at NoActivity 2) ∷ Err (refused_at WronglyEmpty 1) ∷ Err (refused_at LeftOver 0) ∷ Ok 0 ∷ [])))
+    (answers (fresh_net 0 31) busy ≡ map learn_means (replicate 16 (Ok 4) ++ (Err (with_place FullSide 0) ∷ Err (with_place OutsideLimits 0) ∷ Err (with_place OutsideLimits 0) ∷ Err (with_place NoActivity 2) ∷ Err (with_place WronglyEmpty 1) ∷ Err (with_place LeftOver 0) ∷ Ok 0 ∷ [])))
     × (sets_on (grown (fresh_net 0 31) busy) Output 0 ≡ 2 ∷ 4 ∷ 8 ∷ 16 ∷ 32 ∷ 64 ∷ 128 ∷ 256 ∷ 512 ∷ 1024 ∷ 2048 ∷ 4096 ∷ 8192 ∷ 16384 ∷ 32768 ∷ 65536 ∷ [])
 unfolding learn_says learn_gives within_limits words_within bindings first_no_activity first_failing first_from learn_positions shaped ends_agree first_wrongly_empty empty_agree first_impossible possible_at possible run after taken added inputs outputs places_of members members_from keep all_due lowered raised all_zero fits takes_binding takes_put with_binding with_use gained topped topped_binding topped_use topped_at raised_at side_says misplaced listed insert insert_at place_in grows put_sides total fresh_net orderly sized ends_ok sides_ok block_ok counts_ok kind_ok all_below ascends_above zeros follow_says follow_gives trace_within_limits follow_positions followed_from single through busy grown answers
 full = (refl, refl)

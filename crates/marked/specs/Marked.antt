@@ -4,7 +4,7 @@ use Rattle.std.specs.Prelude.{ℕ, true, false, Ok, Err, ◌+◌, ◌-◌, ◌*�
 use Rattle.obligations.specs.Limits.{positions}
 use Rattle.obligations.specs.Sequence.{bindings, words}
 use Rattle.obligations.specs.Examples.{fig4, trip}
-use Rattle.net.specs.Refusals.{refused_at}
+use Rattle.net.specs.Refusals.{with_place}
 use Rattle.net.specs.declared.refusal.Refusal.TheVariants.{OutsideLimits, NotPossible, LeftOver}
 use Rattle.net.specs.Fresh.{fresh_gives}
 use Rattle.net.specs.Contained.{contained_means, contained_says}
@@ -31,8 +31,8 @@ Marked =
     × (replay_says F (0 ∷ 1 ∷ 1 ∷ 3 ∷ []) 1000000 12 ≡ replay_means (Ok (Failed 8)))
     × (replay_says F [] 1000000 12 ≡ replay_means (Ok (Failed 0)))
     × (replay_says F (0 ∷ []) 1000000 12 ≡ replay_means (Ok (Failed 0)))
-    × (judge_says F (0 ∷ 0 ∷ 6 ∷ 2 ∷ 1 ∷ 8 ∷ 3 ∷ 4 ∷ 0 ∷ []) ≡ judge_means (Err (refused_at LeftOver 0)))
-    × (answers (fresh_gives 0 3) (learn (0 ∷ 0 ∷ 2 ∷ 1 ∷ 3 ∷ 10 ∷ 3 ∷ 2 ∷ 0 ∷ []) ∷ []) ≡ map learn_means (Err (refused_at NotPossible 2) ∷ []))
+    × (judge_says F (0 ∷ 0 ∷ 6 ∷ 2 ∷ 1 ∷ 8 ∷ 3 ∷ 4 ∷ 0 ∷ []) ≡ judge_means (Err (with_place LeftOver 0)))
+    × (answers (fresh_gives 0 3) (learn (0 ∷ 0 ∷ 2 ∷ 1 ∷ 3 ∷ 10 ∷ 3 ∷ 2 ∷ 0 ∷ []) ∷ []) ≡ map learn_means (Err (with_place NotPossible 2) ∷ []))
     × (answers (fresh_gives 0 4) (learn fig4 ∷ learn fig4 ∷ []) ≡ map learn_means (Ok 12 ∷ Ok 0 ∷ []))
 
 -- 02, (i): "for the sequence of document 003's trip net with hotel, flight and car it is 4, where the sum of output sizes is 7"
@@ -56,9 +56,9 @@ MarkedLongest =
     let net = grown (fresh_gives 0 3) (follow longest ∷ []) in
     let other = grown (fresh_gives 0 3) (follow longest ∷ follow (detour positions) ∷ []) in
     (positions ≡ 96)
-    × (answers (fresh_gives 0 3) (follow longest ∷ follow longer ∷ learn (words (followed longer)) ∷ []) ≡ map learn_means (Ok 6 ∷ Err (refused_at OutsideLimits 0) ∷ Err (refused_at OutsideLimits 0) ∷ []))
+    × (answers (fresh_gives 0 3) (follow longest ∷ follow longer ∷ learn (words (followed longer)) ∷ []) ≡ map learn_means (Ok 6 ∷ Err (with_place OutsideLimits 0) ∷ Err (with_place OutsideLimits 0) ∷ []))
     × (replay_says net longest 1000000 (3 * positions) ≡ replay_means (Ok (Found (3 * positions - 4))))
-    × (replay_says net longer 1000000 (3 * (positions + 1)) ≡ replay_means (Err (refused_at OutsideLimits 0)))
-    × (judge_says net (words (followed longer)) ≡ judge_means (Err (refused_at OutsideLimits 0)))
+    × (replay_says net longer 1000000 (3 * (positions + 1)) ≡ replay_means (Err (with_place OutsideLimits 0)))
+    × (judge_says net (words (followed longer)) ≡ judge_means (Err (with_place OutsideLimits 0)))
     × (contained_says net other ≡ contained_means (Ok true))
     × (contained_says other net ≡ contained_means (Ok false))

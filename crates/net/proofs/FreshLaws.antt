@@ -37,7 +37,7 @@ pub fresh-end : (start end : ℕ) → (fresh_net start end).end ≡ end
 unfolding fresh_net
 fresh-end start end = refl
 
--- ---- the arrays of one kind
+-- ---- the sides of one kind
 
 blank-at : (n i : ℕ) → ◌≡◌ {A = ℕ} (get_or (blank n) i 0) 0
 blank-at n i = zeros-at (blank n) (blank-zeros n) i
@@ -55,9 +55,9 @@ fresh_ok empty a h = elim (dec_eq a empty) [
   | no d ↦ rw (ne_eqb a empty d, get_or-set_other (blank activities) empty a 1 0 d, blank-at activities a, blank-zeros_part sets (sets * a) places)
 ]
 
-fresh_arrays : (empty : ℕ) → empty < activities → OrderlySides (just_empty empty) empty
+fresh_kind : (empty : ℕ) → empty < activities → OrderlySides (just_empty empty) empty
 unfolding sides_ok
-fresh_arrays empty h = record {
+fresh_kind empty h = record {
   masks_long = refl;
   lengths_long = length-set (blank activities) empty 1;
   all_ok = below_true activities (λ a. block_ok (block (blank places) a) (get_or (set (blank activities) empty 1) a 0) (eqb a empty)) (λ a k. fresh_ok empty a h);
@@ -70,7 +70,7 @@ blank_counts sides z =
 
 fresh-side : (empty a : ℕ) → empty < activities → sets_in (just_empty empty) a ≡ cond (eqb a empty) (0 ∷ []) []
 fresh-side empty a h = elim (dec_eq a empty) [
-  | yes e ↦ rw (eq-eqb a empty e) (side_just_empty (just_empty empty) empty (fresh_arrays empty h) a (omega arith) e)
+  | yes e ↦ rw (eq-eqb a empty e) (side_just_empty (just_empty empty) empty (fresh_kind empty h) a (omega arith) e)
   | no d ↦ rw (ne_eqb a empty d, get_or-set_other (blank activities) empty a 1 0 d, blank-at activities a)
 ]
 
@@ -104,7 +104,7 @@ module _ (start end : ℕ) (h : ends_ok start end ≡ true) where
   unfolding fresh_net
   fresh_orderly =
       let f = ends_facts start end h in
-      parts_orderly (fresh_net start end) h (elim [ Input ↦ fresh_arrays start f.0 | Output ↦ fresh_arrays end f.1 ]) (elim [ Input ↦ blank_counts _ refl | Output ↦ blank_counts _ refl ])
+      parts_orderly (fresh_net start end) h (elim [ Input ↦ fresh_kind start f.0 | Output ↦ fresh_kind end f.1 ]) (elim [ Input ↦ blank_counts _ refl | Output ↦ blank_counts _ refl ])
 
 -- 0 and 1 are ends that fresh accepts
 pub zero_one : ends_ok 0 1 ≡ true

@@ -98,8 +98,8 @@ module _ (net : Net) (h : orderly net ≡ true) where
   pub orderly_sides : (side : Side) → OrderlySides (sides_of net side) (empty_at net side)
   orderly_sides side = record { masks_long = masks_long side; lengths_long = lengths_long side; all_ok = orderly_oks side }
 
-  pub orderly_arrays : (side : Side) → SidesFit (sides_of net side)
-  orderly_arrays side = sides_of_orderly (sides_of net side) (empty_at net side) (orderly_sides side)
+  pub orderly_fit : (side : Side) → SidesFit (sides_of net side)
+  orderly_fit side = sides_of_orderly (sides_of net side) (empty_at net side) (orderly_sides side)
 
   pub orderly_at_most : (side : Side) (a : ℕ) → a < activities → get_or (lengths_of net side) a 0 ≤ sets
   orderly_at_most side a k = side_at_most (sides_of net side) (empty_at net side) (orderly_sides side) a k

@@ -10,7 +10,7 @@ use borrow.Author.Tests.{eq-eqb, ne_eqb}
 use Rattle.obligations.specs.Limits.{activities}
 use Rattle.net.specs.Limits.{sets, places}
 use Rattle.net.specs.Lists.{listed, insert, splice}
-use Rattle.net.specs.Sides.{sets_in, place_on}
+use Rattle.net.specs.Sides.{with_counts, sets_in, place_on}
 use Rattle.net.specs.Inner.{OrderlySides, placed_means, SideSaid, SideDone, CountedDone}
 use Rattle.net.specs.Put.{misplaced, side_says, grows, grown_sides, put_sides}
 use Rattle.net.specs.declared.putting.Placed.{Placed}
@@ -96,7 +96,7 @@ module _ (sides : Sides) (empty a m : ℕ) (o : OrderlySides sides empty) (h : a
   room_there = (omega (arith, d.said.place_is p refl, place_in_side sides empty a m o h), omega (arith, has_room_lem sides empty a m o h grew))
 
   pub counted_new : length sides.counts ≡ places → (counts : List ℕ) → counts ≡ splice put.counts p.at (0 ∷ take (to - p.at) (drop p.at put.counts))
-      → CountedDone sides empty a m (Ok p) (record { masks = put.masks; lengths = put.lengths; counts = counts })
+      → CountedDone sides empty a m (Ok p) (with_counts put counts)
   unfolding put_sides
   counted_new long counts f = record {
     said = d.said;

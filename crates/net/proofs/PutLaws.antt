@@ -25,7 +25,7 @@ use Rattle.net.proofs.OrderlyLaws.{orderly_sides, orderly_counts}
 use Rattle.net.proofs.WithSidesLaws.{with-cond, with_start, with_end, with_kinds, with_orderly, with_size}
 use Rattle.net.proofs.PutSideLaws.{put_side-total, put_side_orderly, put_side_holds, put_side_counted, put_side_count}
 
--- ---- put and the side's arrays
+-- ---- put and the sides of its kind
 
 module _ (net : Net) (side : Side) (a m : ℕ) where
   pub put_says_side : orderly net ≡ true → a < activities → put_says net side a m ≡ side_says (sides_of net side) (empty_at net side) a m

@@ -1,5 +1,6 @@
 -- Laws of a put on one side: what an accepted one leaves on each side of its kind, that every side stays as it has to be, by how
--- much the lengths grow, and that every count stays with its set. Each is by cases on the answer. Assumes nothing.
+-- much the lengths grow, and that every count stays with its set and the set's place where it was found. Each is by cases on the
+-- answer. Assumes nothing.
 use Prim.Native.Nat.{ℕ, ◌+◌, ◌*◌, ◌-◌, ◌<◌, ◌≤◌}
 use native.Mathlib.Decide.{ℕ_discrete as dec_eq, dec_lt}
 use native.Mathlib.Omega.{arith}
@@ -24,7 +25,7 @@ use Rattle.net.specs.Inner.{OrderlySides}
 use Rattle.net.specs.Put.{misplaced, side_says, grows, grown_sides, put_sides}
 use Rattle.net.specs.declared.sides.Sides.{Sides}
 use Rattle.net.proofs.ListLaws.{one_listed}
-use Rattle.net.proofs.InsertLaws.{listed-insert, place-within, splice-insert}
+use Rattle.net.proofs.InsertLaws.{listed-insert, place-within, place-insert, splice-insert}
 use Rattle.net.proofs.PlaceLaws.{listed-place, place-listed, count-insert, total-insert}
 use Rattle.net.proofs.SideLaws.{OrderlyCounts, length-first, first-at, side_at_most, side_just_empty, side_ascending}
 use Rattle.net.proofs.GrownLaws.{grown_side_same, grown_side_other, grown_orderly_sides, grown_counts_same, grown_counts_other, grown_orderly_counts}
@@ -102,6 +103,11 @@ module _ (sides : Sides) (empty a m : ℕ) where
   pub accepted_cases : (side_says sides empty a m).ok ≡ true → (listed m (sets_in sides a) ≡ true) ⊎ (grows (side_says sides empty a m) ≡ true)
   unfolding side_says
   accepted_cases e = chain_accepted (misplaced empty a m) (listed m (sets_in sides a)) (eqb (get_or sides.lengths a 0) sets) e
+
+  -- a refused put leaves the sides as they were
+  pub put_side_refused : (side_says sides empty a m).ok ≡ false → put_sides sides empty a m ≡ sides
+  unfolding put_sides grows
+  put_side_refused f = rw f
 
   pub grows_new : grows (side_says sides empty a m) ≡ true → (misplaced empty a m ≡ false) × (listed m (sets_in sides a) ≡ false) × (get_or sides.lengths a 0 ≡ sets → ⊥)
   unfolding side_says
@@ -274,3 +280,14 @@ module _ (sides : Sides) (empty a m : ℕ) (o : OrderlySides sides empty) (c : O
             | yes e ↦ rw (e, grown_counts_same sides a m h room c inside) (total-insert (place_in m (sets_in sides a)) (counts_in sides a))
             | no d ↦ rw (grown_counts_other sides a m h room c b d (all_at_most sides empty a m o h b))
           ]
+
+-- ---- a put keeps the set's place
+
+pub place_kept : (sides : Sides) (empty a m : ℕ) → OrderlySides sides empty → a < activities
+    → place_on (put_sides sides empty a m) a m ≡ place_on sides a m
+unfolding put_sides
+place_kept sides empty a m o h =
+    ⊎_elim (λ g. rw g (grown g)) (λ g. rw g) (true_or_false (grows (side_says sides empty a m)))
+  where
+    grown : grows (side_says sides empty a m) ≡ true → place_on (grown_sides sides a m) a m ≡ place_on sides a m
+    grown g = rw (grown_side_same sides a m h (has_room_lem sides empty a m o h g) o.masks_long (omega (arith, o.lengths_long)), place-insert m (sets_in sides a))

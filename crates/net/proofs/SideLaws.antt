@@ -14,7 +14,7 @@ use Rattle.obligations.specs.Limits.{activities, masks}
 use Rattle.obligations.proofs.BoolLaws.{and_left, and_right}
 use Rattle.net.specs.Limits.{sets, places}
 use Rattle.net.specs.Lists.{listed, ascends_above, zeros}
-use Rattle.net.specs.Sides.{sides_of, block, first_of, sets_in, OnSide, Masks}
+use Rattle.net.specs.Sides.{sides_of, with_counts, block, first_of, sets_in, OnSide, Masks}
 use Rattle.net.specs.Inner.{SidesFit, OrderlySides}
 use Rattle.net.specs.Orderly.{block_ok, sides_ok, counts_ok}
 use Rattle.net.specs.declared.Net.{Net}
@@ -29,7 +29,7 @@ pub record OrderlyCounts (sides : Sides) : Type 0 where
   pub counts_long : length sides.counts ≡ places
   pub all_zero : counts_ok sides ≡ true
 
--- the sides of one kind are their three arrays
+-- sides with the same three arrays are the same
 pub same_sides : (x y : Sides) → x.masks ≡ y.masks → x.lengths ≡ y.lengths → x.counts ≡ y.counts → x ≡ y
 same_sides x y m l c = λ j. record { masks = m j; lengths = l j; counts = c j }
 
@@ -128,6 +128,14 @@ module _ (sides : Sides) (empty : ℕ) (o : OrderlySides sides empty) (a : ℕ) 
     | yes e ↦ rw (side_just_empty e) (one_ascends 0)
     | no d ↦ above_ascending 0 (sets_in sides a) (plain_side_ok d).0
   ]
+
+-- whatever the counts are, the sides are as they have to be but for them
+pub other_counts : (sides : Sides) (counts : List ℕ) (empty : ℕ) → OrderlySides sides empty → OrderlySides (with_counts sides counts) empty
+unfolding sides_ok
+other_counts sides counts empty o = record { masks_long = o.masks_long; lengths_long = o.lengths_long; all_ok = o.all_ok }
+
+pub fit_whatever_counts : (sides : Sides) (counts : List ℕ) → SidesFit (with_counts sides counts) → SidesFit sides
+fit_whatever_counts sides counts f = record { masks_long = f.masks_long; lengths_long = f.lengths_long; at_most = f.at_most }
 
 -- a place of the counts past a side's sets is zero
 pub counts_past : (sides : Sides) → OrderlyCounts sides → (a : ℕ) → a < activities → zeros (drop (get_or sides.lengths a 0) (block sides.counts a)) ≡ true

@@ -11,9 +11,9 @@ use Rattle.obligations.specs.Limits.{activities}
 use Rattle.obligations.proofs.BoolLaws.{true_or_false}
 use Rattle.net.specs.Limits.{sets, places}
 use Rattle.net.specs.Lists.{place_in, insert_at, zeros, blank}
-use Rattle.net.specs.Sides.{sides_of, counts_of, empty_at, uncounted_sides, uncounted, SameButCounts, sets_in, counts_in}
+use Rattle.net.specs.Sides.{sides_of, counts_of, empty_at, with_counts, uncounted, SameButCounts, sets_in, counts_in}
 use Rattle.net.specs.Inner.{SidesFit, OrderlySides, SideDone, CountedDone}
-use Rattle.net.specs.Orderly.{sides_ok, orderly, Orderly}
+use Rattle.net.specs.Orderly.{orderly, Orderly}
 use Rattle.net.specs.Put.{side_says, put_says, grows, grown_sides, with_sides, put_sides, put_gives}
 use Rattle.net.specs.Contained.{sides_within, contained, contained_says}
 use Rattle.net.specs.declared.Net.{Net}
@@ -21,28 +21,23 @@ use Rattle.net.specs.declared.sides.Side.{Side}
 use Rattle.net.specs.declared.sides.Sides.{Sides}
 use Rattle.net.specs.declared.putting.Placed.{Placed}
 use Rattle.net.specs.declared.refusal.Refusal.{Refusal}
-use Rattle.net.proofs.SideLaws.{same_sides}
+use Rattle.net.proofs.SideLaws.{same_sides, other_counts, fit_whatever_counts}
 use Rattle.net.specs.declared.sides.Side.TheVariants.{Input, Output}
 use Rattle.net.proofs.ListLaws.{zeros-append, zeros_part, zeros-behind, zeros_more, zeros_blank, blank-zeros}
-use Rattle.net.proofs.OrderlyLaws.{orderly_ends, orderly_sides, orderly_arrays, parts_orderly, facts_orderly}
+use Rattle.net.proofs.OrderlyLaws.{orderly_ends, orderly_sides, orderly_fit, parts_orderly, facts_orderly}
 use Rattle.net.proofs.GrownLaws.{length_grown_counts}
 use Rattle.net.proofs.PutSideLaws.{has_room_lem}
 use Rattle.net.proofs.PutLaws.{put_gives_sides, put_accepted, put_refused}
 use Rattle.net.proofs.FreshLaws.{blank_counts}
 
--- what is said of the sides but for their counts
-uncounted_kind : (sides : Sides) (empty : ℕ) → OrderlySides sides empty → OrderlySides (uncounted_sides sides.masks sides.lengths) empty
-unfolding sides_ok
-uncounted_kind sides empty o = record { masks_long = o.masks_long; lengths_long = o.lengths_long; all_ok = o.all_ok }
-
 pub uncounted-orderly : (net : Net) → orderly net ≡ true → orderly (uncounted net) ≡ true
 uncounted-orderly net o =
-    parts_orderly (uncounted net) (orderly_ends net o) (elim [ Input ↦ uncounted_kind _ _ (orderly_sides net o Input) | Output ↦ uncounted_kind _ _ (orderly_sides net o Output) ]) (elim [ Input ↦ blank_counts _ refl | Output ↦ blank_counts _ refl ])
+    parts_orderly (uncounted net) (orderly_ends net o) (elim [ Input ↦ other_counts net.inputs _ _ (orderly_sides net o Input) | Output ↦ other_counts net.outputs _ _ (orderly_sides net o Output) ]) (elim [ Input ↦ blank_counts _ refl | Output ↦ blank_counts _ refl ])
 
 -- a net that is orderly but for its counts has sides that fit
 pub lent_fit : (net : Net) → orderly (uncounted net) ≡ true → (side : Side) → SidesFit (sides_of net side)
-lent_fit net o Input = let f = orderly_arrays (uncounted net) o Input in record { masks_long = f.masks_long; lengths_long = f.lengths_long; at_most = f.at_most }
-lent_fit net o Output = let f = orderly_arrays (uncounted net) o Output in record { masks_long = f.masks_long; lengths_long = f.lengths_long; at_most = f.at_most }
+lent_fit net o Input = fit_whatever_counts net.inputs _ (orderly_fit (uncounted net) o Input)
+lent_fit net o Output = fit_whatever_counts net.outputs _ (orderly_fit (uncounted net) o Output)
 
 -- what says the same of an orderly net with counts 0 says the same of two that differ in their counts alone
 pub passes_over : {A : Type 0} (f : Net → A) → ((net : Net) → orderly net ≡ true → f (uncounted net) ≡ f net) → (x y : Net) → Orderly x → Orderly y → SameButCounts x y → f x ≡ f y
@@ -79,9 +74,12 @@ pub no_counts : (net : Net) → uncounted net ≡ net → (side : Side) → coun
 no_counts net e Input = sym (ap (λ (n : Net). n.inputs.counts) e)
 no_counts net e Output = sym (ap (λ (n : Net). n.outputs.counts) e)
 
+blank_sides : (sides : Sides) → sides.counts ≡ blank places → with_counts sides (blank places) ≡ sides
+blank_sides sides z = same_sides (with_counts sides (blank places)) sides refl refl (sym z)
+
 with_blank : (net : Net) (side : Side) (sides : Sides) → uncounted net ≡ net → sides.counts ≡ blank places → uncounted (with_sides net side sides) ≡ with_sides net side sides
-with_blank net Input sides e z = λ j. record { start = net.start; end = net.end; inputs = same_sides (uncounted_sides sides.masks sides.lengths) sides refl refl (sym z) j; outputs = (e j).outputs }
-with_blank net Output sides e z = λ j. record { start = net.start; end = net.end; inputs = (e j).inputs; outputs = same_sides (uncounted_sides sides.masks sides.lengths) sides refl refl (sym z) j }
+with_blank net Input sides e z = λ j. record { start = net.start; end = net.end; inputs = blank_sides sides z j; outputs = (e j).outputs }
+with_blank net Output sides e z = λ j. record { start = net.start; end = net.end; inputs = (e j).inputs; outputs = blank_sides sides z j }
 
 -- a put leaves them 0
 pub put_uncounted : (net : Net) (side : Side) (a m : ℕ) → orderly net ≡ true → uncounted net ≡ net → uncounted (put_gives net side a m) ≡ put_gives net side a m

@@ -61,8 +61,8 @@ module _ (x y : Net) (o : orderly x ≡ true) (q : orderly y ≡ true) (same : (
       ∙ sym (place_at y q side (i / sets) (i % sets) a k)
       ∙ ap (λ (j : ℕ). get_or (masks_of y side) j 0) e)
 
-  same_sides : x.start ≡ y.start → x.end ≡ y.end → SameButCounts x y
-  same_sides s e = same_arrays x y s e same_masks same_lengths
+  same_nets : x.start ≡ y.start → x.end ≡ y.end → SameButCounts x y
+  same_nets s e = same_arrays x y s e same_masks same_lengths
 
 -- ---- orderly nets that contain each other are equal, but for the counts
 
@@ -72,7 +72,7 @@ same_empty x y Input s e = s
 same_empty x y Output s e = e
 
 pub contained-same : (x y : Net) → orderly x ≡ true → orderly y ≡ true → Contained x y → Contained y x → SameButCounts x y
-contained-same x y o q f g = same_sides x y o q same f.same_start f.same_end
+contained-same x y o q f g = same_nets x y o q same f.same_start f.same_end
   where
     same : (side : Side) (a : ℕ) → a < activities → sets_on x side a ≡ sets_on y side a
     same side a h =

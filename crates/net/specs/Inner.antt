@@ -16,13 +16,13 @@ use Rattle.net.specs.declared.sides.Sides.{Sides}
 use Rattle.net.specs.contracts.Net.{the_row}
 use Rattle.net.specs.contracts.sides.Sides.{the_row as sides_row}
 
--- arrays as long as the record's, with at most 16 sets on each side
+-- sides whose arrays are as long as the record's, with at most 16 sets on each
 pub record SidesFit (sides : Sides) : Type 0 where
   pub masks_long : length sides.masks ≡ places
   pub lengths_long : length sides.lengths ≡ activities
   pub at_most : (a : ℕ) → a < activities → get_or sides.lengths a 0 ≤ sets
 
--- arrays as long as the record's, of which every side is as it has to be
+-- sides whose arrays are as long as the record's, each as it has to be but for its counts
 pub record OrderlySides (sides : Sides) (empty : ℕ) : Type 0 where
   pub masks_long : length sides.masks ≡ places
   pub lengths_long : length sides.lengths ≡ activities

@@ -71,7 +71,7 @@ grown_sides sides a m = record {
   counts = splice sides.counts (sets * a) (insert_at (place_in m (sets_in sides a)) 0 (counts_in sides a));
 }
 
--- the sides after m was put on activity a's: with it if it is new, else those given
+-- the sides after m was put on activity a's: with it if it is accepted and new, else those given
 unfoldable pub put_sides : Sides → ℕ → ℕ → ℕ → Sides
 put_sides sides empty a m = cond (grows (side_says sides empty a m)) (grown_sides sides a m) sides
 

@@ -90,8 +90,8 @@ refusal_number NameUnanswered = name_unanswered
 refusal_number CountTooHigh = count_too_high
 
 -- a refusal with its place
-abbrev pub refused_at : Refusal → ℕ → Refused
-refused_at r p = record { refusal = r; place = p }
+abbrev pub with_place : Refusal → ℕ → Refused
+with_place r p = record { refusal = r; place = p }
 
 -- what an answer means, given the number that stands for each value
 abbrev pub means : {T : Type 0} → (T → ℕ) → Result T Refused → Says

@@ -36,18 +36,17 @@ abbrev pub empty_at : Net → Side → ℕ
 empty_at net Input = net.start
 empty_at net Output = net.end
 
+-- the sides with other counts
+abbrev pub with_counts : Sides → List ℕ → Sides
+with_counts sides counts = record { masks = sides.masks; lengths = sides.lengths; counts = counts }
+
 -- the sides with these masks and lengths, and counts 0
 abbrev pub uncounted_sides : List ℕ → List ℕ → Sides
 uncounted_sides masks lengths = record { masks = masks; lengths = lengths; counts = blank places }
 
 -- a net with counts 0 in place of its own
 abbrev pub uncounted : Net → Net
-uncounted net = record {
-  start = net.start;
-  end = net.end;
-  inputs = uncounted_sides net.inputs.masks net.inputs.lengths;
-  outputs = uncounted_sides net.outputs.masks net.outputs.lengths;
-}
+uncounted net = record { start = net.start; end = net.end; inputs = with_counts net.inputs (blank places); outputs = with_counts net.outputs (blank places) }
 
 -- two nets differ in their counts alone, or not at all
 abbrev pub SameButCounts : Net → Net → Type 0

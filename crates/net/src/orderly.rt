@@ -57,13 +57,13 @@ fn counts_ok(sides: &Sides) -> bool
 }
 
 // The 16 places of activity a, among those of masks or of counts.
-fn block(places: &[u32; PLACES], a: u32) -> &[u32]
+fn block(array: &[u32; PLACES], a: u32) -> &[u32]
     requires { a < activities }
-    ensures block { result.now ≡ block places.now a }
+    ensures block { result.now ≡ block array.now a }
     ensures long { length result.now ≡ sets }
 {
     let from = (SETS * a) as usize;
-    &places[from..from + SETS as usize]
+    &array[from..from + SETS as usize]
 }
 
 // Whether the 16 places of a side with n sets are as they have to be; only: the side has to hold just the empty set.
@@ -85,7 +85,7 @@ fn unused_zero(block: &[u32], n: u32) -> bool
     requires { n ≤ length block.now }
     ensures { result ≡ zeros (drop n block.now) }
 {
-    // Most sides are empty, and of all 16 places the compiler makes a test without a loop, of four vectors.
+    // Most sides have no sets. Of all 16 places the compiler makes a test of four vectors, without a loop.
     if n == 0 {
         return lists::all_zero(block);
     }

@@ -26,7 +26,7 @@ pub enum Refusal {
 
 impl Refusal {
     ghost use Rattle.std.specs.Prelude.{◌≡◌};
-    ghost use Rattle.net.specs.Refusals.{refusal_number, refused_at};
+    ghost use Rattle.net.specs.Refusals.{refusal_number, with_place};
 
     // The refusal's number.
     pub fn number(self) -> u32
@@ -37,7 +37,7 @@ impl Refusal {
 
     // The refusal with the place that is returned with it.
     pub fn at(self, place: u32) -> Refused
-        ensures { result ≡ refused_at self place }
+        ensures { result ≡ with_place self place }
     {
         Refused {
             refusal: self,
@@ -57,9 +57,9 @@ pub struct Refused {
 // A refusal of the whole call, so that `?` passes one on.
 impl From<Refusal> for Refused {
     ghost use Rattle.std.specs.Prelude.{◌≡◌};
-    ghost use Rattle.net.specs.Refusals.{refused_at};
+    ghost use Rattle.net.specs.Refusals.{with_place};
 
-    ghost from_gives = { λ refusal refused. refused ≡ refused_at refusal 0 };
+    ghost from_gives = { λ refusal refused. refused ≡ with_place refusal 0 };
 
     fn from(refusal: Refusal) -> Refused {
         refusal.at(0)

@@ -15,7 +15,7 @@ use Rattle.text.specs.Fields.{onto}
 use Rattle.text.specs.Lines.{starts_cr_lf, lines}
 use Rattle.text.specs.Inner.{line_length}
 use Rattle.text.proofs.LineLaws.{lines_cut}
-use Rattle.net.specs.Refusals.{bad_ends, outside_limits, line_form, refusal_number, refused_at as with_place}
+use Rattle.net.specs.Refusals.{bad_ends, outside_limits, line_form, refusal_number, with_place}
 use Rattle.net.specs.declared.Net.{Net}
 use Rattle.net.specs.declared.refusal.Refusal.{Refusal}
 use Rattle.net.specs.declared.refusal.Refused.{Refused}

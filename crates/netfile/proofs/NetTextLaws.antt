@@ -8,7 +8,7 @@ use native.Mathlib.Omega.{arith}
 use borrow.Author.Tests.{le-leb, lt-leb}
 use lib.ListN.{length}
 use lib.Seq.{sets, sets-eq}
-use Rattle.net.specs.Refusals.{refused_at}
+use Rattle.net.specs.Refusals.{with_place}
 use Rattle.net.specs.Orderly.{orderly}
 use Rattle.net.specs.declared.Net.{Net}
 use Rattle.netfile.specs.NetFile.{net_text, write_says, write_gives, NetWritten}
@@ -16,11 +16,11 @@ use Rattle.std.specs.Prelude.{Ok, Err}
 use Rattle.net.specs.declared.refusal.Refusal.TheVariants.{Disorderly, TextTooLong}
 
 module _ (net : Net) (buf : List ℕ) where
-  pub written_disorderly : orderly net ≡ false → NetWritten net buf (Err (refused_at Disorderly 0)) buf
+  pub written_disorderly : orderly net ≡ false → NetWritten net buf (Err (with_place Disorderly 0)) buf
   unfolding write_says write_gives
   written_disorderly o = record { says = rw o; gives = rw o }
 
-  pub written_short : orderly net ≡ true → length buf < length (net_text net) → NetWritten net buf (Err (refused_at TextTooLong 0)) buf
+  pub written_short : orderly net ≡ true → length buf < length (net_text net) → NetWritten net buf (Err (with_place TextTooLong 0)) buf
   unfolding write_says write_gives
   written_short o h = let e = lt-leb (length (net_text net)) (length buf) h in record { says = rw (o, e); gives = rw (o, e) }
 

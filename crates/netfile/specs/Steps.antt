@@ -1,7 +1,7 @@
 -- What the steps of reading leave: definitions of which only contracts of private functions speak.
 use Rattle.std.specs.Prelude.{ℕ, ◌≤◌, ◌≡◌, true, List, Result, Ok, Err, is_ok, IfErr, ⊤, length}
 use Rattle.text.specs.Lines.{lines}
-use Rattle.net.specs.Refusals.{refusal_number, refused_at}
+use Rattle.net.specs.Refusals.{refusal_number, with_place}
 use Rattle.net.specs.Orderly.{ends_ok}
 use Rattle.net.specs.Fresh.{fresh_net}
 use Rattle.net.specs.declared.Net.{Net}
@@ -13,7 +13,7 @@ use Rattle.netfile.specs.declared.line.SetRow.{SetRow}
 -- what line n answers, with its number where it is refused
 abbrev pub on_line : {T : Type 0} → ℕ → Result T Refusal → Result T Refused
 on_line n (Ok v) = Ok v
-on_line n (Err r) = Err (refused_at r n)
+on_line n (Err r) = Err (with_place r n)
 
 -- a start and an end were read from line 2 on, and the text of the rows is left
 pub record EndsRead (text : List ℕ) (start end : ℕ) (rows : List ℕ) : Type 0 where

@@ -1,6 +1,7 @@
--- The step said of each pair (p, q), as 000's ψ says it, and possible said of each member. The places of a binding's inputs
--- are one row of the state and those of its outputs one column, so a pair is selected as often as a bit says. Every place of a
--- state is that of one pair of activities, so that all counts are zero exactly if those of all pairs are. Assumes nothing.
+-- The step said of each pair (p, q), as 000's ψ says it, and possible said of each member and by the set of those because of which
+-- an activity is due. The places of a binding's inputs are one row of the state and those of its outputs one column, so a pair is
+-- selected as often as a bit says. Every place of a state is that of one pair of activities, so that all counts are zero exactly if
+-- those of all pairs are. Assumes nothing.
 use Rattle.std.proofs.Common.{ℕ, ◌+◌, ◌-◌, ◌*◌, ◌/◌, ◌%◌, ◌≤◌, ◌<◌, ◌^◌, ◌≡◌, ap, ap₂, subst, ◌∙◌, ⊎_elim, true, not, ◌&&◌, List, arith, eq-eqb, ne_eqb, eqb, lit<, length, take, drop, get_or, get_or-take, get_or-drop, sym}
 use Rattle.std.proofs.lemmas.Bool.{eqb-false, not-true}
 use Rattle.obligations.specs.Limits.{activities}
@@ -73,7 +74,7 @@ row_causes d a s n e f p h =
       (λ l. here ∙ rw (ne_eqb (get_or d (a * activities + p) 0) 0 (omega arith))),
     )
 
--- so all of x are among those because of which a is due
+-- so a binding of a with x is possible exactly if all of x are among those
 pub subset_possible : (d : List ℕ) (a x s : ℕ) → x < 2 ^ 32 → s < 2 ^ 32 → Causes d a s → subset x s ≡ possible d a x
 subset_possible d a x s hx hs c =
     same_test (subset x s) (possible d a x) (λ e. count-possible d a x (λ p h m. (c p h).0 (subset-members x s hx hs e p m)))

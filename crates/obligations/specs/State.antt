@@ -40,7 +40,7 @@ unfoldable pub raised : List ℕ → List ℕ → List ℕ
 raised d [] = d
 raised d (i ∷ is) = raised (set d i (get_or d i 0 + 1)) is
 
--- s is the set of those because of which a is due: of the p with a count of (p, a) of at least 1
+-- of the code alone: s is the set of those because of which a is due, of the p with a count of (p, a) of at least 1
 abbrev pub Causes : List ℕ → ℕ → ℕ → Type 0
 Causes d a s = (p : ℕ) → p < activities → (member s p ≡ true) ↔ (1 ≤ count d p a)
 

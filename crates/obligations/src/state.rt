@@ -7,7 +7,7 @@
 // a trace or sequence may be any and are tested once, at the call, and a type of such words would be made anew of each. That counts
 // have room for one more is no invariant of a state, since an `add` may leave one that hasn't.
 
-ghost use Rattle.std.specs.Prelude.{◌≡◌, true, not, eqb, List, ℕ, ◌≤◌, ◌<◌, ◌+◌, ◌-◌, ◌*◌, length, get_or};
+ghost use Rattle.std.specs.Prelude.{◌≡◌, true, not, eqb, List, ℕ, ◌<◌, length, get_or};
 ghost use Rattle.obligations.specs.Limits.{activities, pairs};
 ghost use Rattle.obligations.specs.Sets.{member};
 ghost use Rattle.obligations.specs.State.{nothing, places_left, inputs, outputs, all_due, lowered, raised, Causes, possible, taken, added, covers, unadded, untaken, before, all_zero, total, State, most_due, step_says, step_gives};

@@ -122,7 +122,7 @@ impl Search<'_> {
 }
 
 // How many of activity a's sets stand before the first that is possible; all of them if none is. Most sets that a search looks at
-// aren't possible, so those because of which a is due are gathered once, and each set is only compared with them.
+// aren't possible, so the activities because of which a is due are gathered once, and each set is only compared with them.
 fn next_possible(due: &Due, a: u32, sets: &[u32]) -> usize
     requires { a < activities }
     ensures { result ≡ position_or_len (λ x. possible due.now a x) sets.now }

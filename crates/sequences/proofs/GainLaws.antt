@@ -16,7 +16,7 @@ use Rattle.obligations.specs.declared.sequence.Binding.{Binding}
 use Rattle.obligations.proofs.BoolLaws.{true_or_false, false-not-true}
 use Rattle.net.specs.Limits.{places, most_uses}
 use Rattle.net.specs.Refusals.{Says, accepted, refused, refusal_number}
-use Rattle.net.specs.Sides.{net_size, place_on}
+use Rattle.net.specs.Sides.{with_counts, net_size, place_on}
 use Rattle.net.specs.Inner.{OrderlySides, CountedDone}
 use Rattle.net.specs.Orderly.{orderly}
 use Rattle.net.specs.Put.{side_says, put_sides}
@@ -26,9 +26,9 @@ use Rattle.net.specs.declared.refusal.Refusal.{Refusal}
 use Rattle.net.specs.declared.refusal.Refusal.TheVariants.{FullSide}
 use Rattle.net.specs.declared.sides.Sides.{Sides}
 use Rattle.net.specs.declared.sides.Side.TheVariants.{Input, Output}
-use Rattle.net.proofs.PutSideLaws.{place_below, put_side-total, side_value}
+use Rattle.net.proofs.PutSideLaws.{place_below, put_side_refused, put_side-total, side_value}
 use Rattle.net.proofs.OrderlyLaws.{orderly_sides}
-use Rattle.sequences.specs.Gain.{raised_at, topped_at, used_sides, topped_sides, with_use, takes_put, topped_use, with_binding, takes_binding, topped_binding, gained, fits, topped}
+use Rattle.sequences.specs.Gain.{raised_at, topped_at, used_sides, topped_counts, with_use, takes_put, topped_use, with_binding, takes_binding, topped_binding, gained, fits, topped}
 use Rattle.sequences.specs.Learn.{gain_says, new_sets}
 use Rattle.sequences.specs.Inner.{gained_by, SetGained}
 use Rattle.sequences.specs.declared.gaining.Added.{Added}
@@ -71,22 +71,22 @@ module _ (sides : Sides) (empty a m : ℕ) where
     raise_below o h = omega (arith, d.said.place_is p refl, place_below sides empty a m o h accepts)
 
     pub gained_set : (tops : ℕ) (counts : List ℕ) → tops ≡ topped_at put.counts p.at → counts ≡ raised_at put.counts p.at
-        → SetGained sides empty a m (Ok (record { sets = indicator p.new; topped = tops })) (record { masks = put.masks; lengths = put.lengths; counts = counts })
+        → SetGained sides empty a m (Ok (record { sets = indicator p.new; topped = tops })) (with_counts put counts)
     unfolding gained_by
     gained_set tops counts t c =
         let q : p.at ≡ place_on sides a m = d.said.place_is p refl in
-        record { adds = rw (← d.said.says, t, d.sides_are, q); sides_are = λ ok. rw (c, d.sides_are, q) }
+        record { adds = rw (← d.said.says, t, d.sides_are, q); taken = λ ok. rw (c, d.sides_are, q); stayed = λ f. absurd (false-not-true f accepts) }
 
   pub gained_none : (e : Refusal) (put : Sides) → CountedDone sides empty a m (Err e) put → SetGained sides empty a m (Err FullSide) put
   unfolding gained_by
   gained_none e put d =
       let f : side_answer.ok ≡ false = ap (λ (s : Says). s.ok) (sym d.said.says) in
-      record { adds = rw f; sides_are = λ ok. absurd (false-not-true f ok) }
+      record { adds = rw f; taken = λ ok. absurd (false-not-true f ok); stayed = λ g. d.sides_are ∙ put_side_refused sides empty a m g }
 
   -- what a set leaves of its side, where it was taken
   module _ (x : Added) (sides' : Sides) (d : SetGained sides empty a m (Ok x) sides') where
-    taken : (side_answer.ok ≡ true) × (x.sets ≡ side_answer.value) × (x.topped ≡ topped_sides sides empty a m)
-    taken = took side_answer (topped_sides sides empty a m) x d.adds
+    taken : (side_answer.ok ≡ true) × (x.sets ≡ side_answer.value) × (x.topped ≡ topped_counts sides empty a m)
+    taken = took side_answer (topped_counts sides empty a m) x d.adds
 
     pub takes : side_answer.ok ≡ true
     takes = taken.0
@@ -98,7 +98,7 @@ module _ (sides : Sides) (empty a m : ℕ) where
     one_top = omega (arith, taken.2, one_topped (put_sides sides empty a m).counts (place_on sides a m))
 
     used_are : sides' ≡ used_sides sides empty a m
-    used_are = d.sides_are taken.0
+    used_are = d.taken taken.0
 
     still_orderly : OrderlySides sides empty → a < activities → OrderlySides sides' empty
     still_orderly o h = rw used_are (used_orderly sides empty a m o h)

@@ -28,12 +28,12 @@ use Rattle.net.specs.declared.sides.Sides.{Sides}
 use Rattle.net.specs.declared.sides.Side.TheVariants.{Input, Output}
 use Rattle.net.proofs.SideLaws.{OrderlyCounts}
 use Rattle.net.proofs.OrderlyLaws.{orderly_sides, orderly_counts}
-use Rattle.net.proofs.PutSideLaws.{put_side_orderly, put_side_counted, put_side_holds, put_side_count, put_side_sum}
+use Rattle.net.proofs.PutSideLaws.{put_side_orderly, put_side_counted, put_side_holds, put_side_count, put_side_sum, place_kept}
 use Rattle.net.proofs.WithSidesLaws.{with_start, with_end, with_own, with_orderly}
 use Rattle.net.proofs.PutLaws.{put_says_side, put_gives_sides, put_refused, put_on_side, put_size}
 use Rattle.net.proofs.ContainedLaws.{contained-refl, contained_trans, put-contained}
 use Rattle.sequences.specs.Gain.{raised_at, topped_at, used_sides, with_use, takes_put, topped_use, with_binding, takes_binding, topped_binding, gained, fits, set_for, SetOf}
-use Rattle.sequences.proofs.UseLaws.{place_kept, raised_orderly, topped_exactly, raised_count, raised_sum, used_orderly}
+use Rattle.sequences.proofs.UseLaws.{raised_orderly, topped_exactly, raised_count, raised_sum, used_orderly}
 
 -- ---- one use
 

@@ -1,5 +1,5 @@
 -- A use of a set that is on a side: its count is the one at its place, and a raise there adds one to it and to the side's sum, and
--- touches nothing else. A put keeps the set's place, and after both every side is as it has to be. Assumes nothing.
+-- touches nothing else. After a put and a raise every side is as it has to be but for its counts. Assumes nothing.
 use Prim.Native.Nat.{ℕ, ◌+◌, ◌*◌, ◌-◌, ◌<◌, ◌≤◌}
 use native.Mathlib.Decide.{ℕ_discrete as dec_eq, dec_lt}
 use native.Mathlib.Omega.{arith}
@@ -18,16 +18,13 @@ use Rattle.obligations.proofs.BoolLaws.{true_or_false}
 use Rattle.obligations.proofs.TotalLaws.{total-raise}
 use Rattle.net.specs.Limits.{sets, most_uses}
 use Rattle.net.specs.Lists.{listed, place_in}
-use Rattle.net.specs.Sides.{block, first_of, sets_in, counts_in, count_in, place_on}
+use Rattle.net.specs.Sides.{with_counts, block, first_of, sets_in, counts_in, count_in, place_on}
 use Rattle.net.specs.Inner.{OrderlySides}
-use Rattle.net.specs.Orderly.{sides_ok}
-use Rattle.net.specs.Put.{grows, side_says, grown_sides, put_sides}
+use Rattle.net.specs.Put.{put_sides}
 use Rattle.net.specs.declared.sides.Sides.{Sides}
 use Rattle.net.proofs.PlaceLaws.{listed-place, count_at, count-raise}
-use Rattle.net.proofs.SideLaws.{OrderlyCounts, counts_past, past_counts, length-first, first-at, side_at_most, side_ascending}
-use Rattle.net.proofs.InsertLaws.{place-insert}
-use Rattle.net.proofs.GrownLaws.{grown_side_same}
-use Rattle.net.proofs.PutSideLaws.{all_at_most, has_room_lem, put_side_orderly}
+use Rattle.net.proofs.SideLaws.{other_counts, OrderlyCounts, counts_past, past_counts, length-first, first-at, side_at_most, side_ascending}
+use Rattle.net.proofs.PutSideLaws.{all_at_most, put_side_orderly}
 use Rattle.sequences.specs.Gain.{raised_at, topped_at, used_sides}
 
 -- ---- a store at place j of activity a
@@ -70,9 +67,6 @@ module _ (sides : Sides) (empty a m : ℕ) (o : OrderlySides sides empty) (c : O
   count_there =
       sym (first-at sides.counts a n place inside) ∙ sym (count_at m (sets_in sides a) (counts_in sides a) (side_ascending sides empty o a h) as_long there)
 
-  abbrev with_counts : List ℕ → Sides
-  with_counts counts = record { masks = sides.masks; lengths = sides.lengths; counts = counts }
-
   abbrev stored : List ℕ
   stored = set sides.counts (place_on sides a m) (count + 1)
 
@@ -82,9 +76,9 @@ module _ (sides : Sides) (empty a m : ℕ) (o : OrderlySides sides empty) (c : O
   other_stored : (b k : ℕ) → (b ≡ a → ⊥) → k ≤ sets → first_of stored b k ≡ first_of sides.counts b k
   other_stored b k d l = store_other sides.counts a place (count + 1) b k d l (omega (arith, inside, few))
 
-  stored_orderly : OrderlyCounts (with_counts stored)
+  stored_orderly : OrderlyCounts (with_counts sides stored)
   stored_orderly =
-      past_counts (with_counts stored) (length-set sides.counts _ _ ∙ c.counts_long)
+      past_counts (with_counts sides stored) (length-set sides.counts _ _ ∙ c.counts_long)
       (λ b l. elim (dec_eq b a) [
         | yes e ↦ rw (e, store_own sides.counts a place (count + 1) sets (omega (arith, inside, few)), drop-set-lt n (block sides.counts a) place (count + 1) inside) (counts_past sides c a h)
         | no d ↦ rw (other_stored b sets d (omega arith)) (counts_past sides c b l)
@@ -92,7 +86,7 @@ module _ (sides : Sides) (empty a m : ℕ) (o : OrderlySides sides empty) (c : O
 
   -- the sides after the raise
   abbrev raised : Sides
-  raised = with_counts (raised_at sides.counts (place_on sides a m))
+  raised = with_counts sides (raised_at sides.counts (place_on sides a m))
 
   pub raised_orderly : OrderlyCounts raised
   unfolding raised_at
@@ -123,21 +117,8 @@ module _ (sides : Sides) (empty a m : ℕ) (o : OrderlySides sides empty) (c : O
       | no d ↦ rw (was_stored, other_stored b (get_or sides.lengths b 0) d (all_at_most sides empty a m o h b), ne_eqb a b (λ e. d (sym e))) (omega arith)
     ]
 
--- ---- a put keeps the set's place
-
-pub place_kept : (sides : Sides) (empty a m : ℕ) → OrderlySides sides empty → a < activities
-    → place_on (put_sides sides empty a m) a m ≡ place_on sides a m
-unfolding put_sides
-place_kept sides empty a m o h =
-    ⊎_elim (λ g. rw g (grown g)) (λ g. rw g) (true_or_false (grows (side_says sides empty a m)))
-  where
-    grown : grows (side_says sides empty a m) ≡ true → place_on (grown_sides sides a m) a m ≡ place_on sides a m
-    grown g = rw (grown_side_same sides a m h (has_room_lem sides empty a m o h g) o.masks_long (omega (arith, o.lengths_long)), place-insert m (sets_in sides a))
-
 -- ---- a put and a raise
 
--- after them every side is as it has to be
+-- after them every side is as it has to be but for its counts
 pub used_orderly : (sides : Sides) (empty a m : ℕ) → OrderlySides sides empty → a < activities → OrderlySides (used_sides sides empty a m) empty
-unfolding sides_ok
-used_orderly sides empty a m o h =
-    let p = put_side_orderly sides empty a m o h in record { masks_long = p.masks_long; lengths_long = p.lengths_long; all_ok = p.all_ok }
+used_orderly sides empty a m o h = other_counts (put_sides sides empty a m) _ empty (put_side_orderly sides empty a m o h)

@@ -9,7 +9,7 @@ use Rattle.net.specs.Limits.{sets, most_uses}
 use Rattle.net.specs.Lists.{AtMost}
 use Rattle.net.specs.Refusals.{full_side, count_too_high}
 use Rattle.net.specs.Sentences.{Sentence, whole}
-use Rattle.net.specs.Sides.{sides_of, empty_at, count_of, OnSide, place_on}
+use Rattle.net.specs.Sides.{sides_of, empty_at, with_counts, count_of, OnSide, place_on}
 use Rattle.net.specs.Orderly.{Orderly}
 use Rattle.net.specs.Put.{side_says, put_sides, with_sides}
 use Rattle.net.specs.declared.Net.{Net}
@@ -78,10 +78,10 @@ topped_at counts i = cond (ltb (get_or counts i 0) most_uses) 0 1
 abbrev pub used_sides : Sides → ℕ → ℕ → ℕ → Sides
 used_sides sides empty a m =
     let put = put_sides sides empty a m in
-    record { masks = put.masks; lengths = put.lengths; counts = raised_at put.counts (place_on sides a m) }
+    with_counts put (raised_at put.counts (place_on sides a m))
 
-abbrev pub topped_sides : Sides → ℕ → ℕ → ℕ → ℕ
-topped_sides sides empty a m = topped_at (put_sides sides empty a m).counts (place_on sides a m)
+abbrev pub topped_counts : Sides → ℕ → ℕ → ℕ → ℕ
+topped_counts sides empty a m = topped_at (put_sides sides empty a m).counts (place_on sides a m)
 
 -- the net after m was put on one side and used, whether that put is accepted, and how many counts couldn't be raised; the net is
 -- orderly and a is an activity
@@ -92,7 +92,7 @@ unfoldable pub takes_put : Net → Side → ℕ → ℕ → Bool
 takes_put net side a m = (side_says (sides_of net side) (empty_at net side) a m).ok
 
 unfoldable pub topped_use : Net → Side → ℕ → ℕ → ℕ
-topped_use net side a m = topped_sides (sides_of net side) (empty_at net side) a m
+topped_use net side a m = topped_counts (sides_of net side) (empty_at net side) a m
 
 -- the same of one position's two sets
 unfoldable pub with_binding : Net → Binding → Net

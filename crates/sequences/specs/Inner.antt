@@ -1,5 +1,5 @@
 -- What inner functions leave and answer: no sentence of the papers speaks of these.
-use Rattle.std.specs.Prelude.{ℕ, ◌+◌, ◌*◌, ◌≤◌, ◌<◌, ◌≡◌, true, cond, List, Result, Ok, Err, ltb, length, get_or}
+use Rattle.std.specs.Prelude.{ℕ, ◌+◌, ◌*◌, ◌≤◌, ◌<◌, ◌≡◌, true, false, cond, List, Result, Ok, Err, ltb, length, get_or}
 use Rattle.obligations.specs.Limits.{activities, positions}
 use Rattle.obligations.specs.Sets.{single}
 use Rattle.obligations.specs.Sequence.{bindings, at}
@@ -11,7 +11,7 @@ use Rattle.net.specs.declared.sides.Sides.{Sides}
 use Rattle.net.specs.declared.refusal.Refusal.{Refusal}
 use Rattle.net.specs.declared.refusal.Refusal.TheVariants.{FullSide}
 use Rattle.net.specs.declared.refusal.Refused.{Refused}
-use Rattle.sequences.specs.Gain.{used_sides, topped_sides, gained}
+use Rattle.sequences.specs.Gain.{used_sides, topped_counts, gained}
 use Rattle.sequences.specs.Learn.{learn_means, gain_says}
 use Rattle.sequences.specs.declared.gaining.Added.{Added}
 
@@ -40,10 +40,11 @@ pub record TraceWithinLimits (trace : List ℕ) : Type 0 where
 unfoldable pub gained_by : Says → ℕ → Result Added Refusal
 gained_by says tops = cond says.ok (Ok (record { sets = says.value; topped = tops })) (Err FullSide)
 
--- what a set for activity a's side leaves of the sides of its kind; where the put isn't accepted they don't matter
+-- what a set for activity a's side leaves of the sides of its kind
 pub record SetGained (sides : Sides) (empty a m : ℕ) (r : Result Added Refusal) (sides' : Sides) : Type 0 where
-  pub adds : r ≡ gained_by (side_says sides empty a m) (topped_sides sides empty a m)
-  pub sides_are : (side_says sides empty a m).ok ≡ true → sides' ≡ used_sides sides empty a m
+  pub adds : r ≡ gained_by (side_says sides empty a m) (topped_counts sides empty a m)
+  pub taken : (side_says sides empty a m).ok ≡ true → sides' ≡ used_sides sides empty a m
+  pub stayed : (side_says sides empty a m).ok ≡ false → sides' ≡ sides
 
 -- refusals 12 and 21 alone, for a sequence that no other refusal holds of
 pub record GainLeft (net : Net) (s : List Binding) (answer : Result ℕ Refused) (net' : Net) : Type 0 where

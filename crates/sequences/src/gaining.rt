@@ -17,7 +17,7 @@ use obligations::sequence::bindings;
 
 // What a position's set does to its side, in numbers that add up over the positions: how many sets it adds, and how many counts are
 // at their top and can't be raised, each 0 or 1. `topped` is a number, and no `bool`, because the definition counts
-// (`topped_sides`).
+// (`topped_counts`).
 #[derive(Clone, Copy)]
 struct Added {
     sets: u32,

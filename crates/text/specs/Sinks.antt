@@ -54,13 +54,13 @@ out_laws = record {
 }
 
 -- ---- a count: it has room for what its word can count
-abbrev pub Countable : Width → List ℕ → Type 0
-Countable s text = s.0 + length text < 2 ^ 64
+abbrev pub WidthFits : Width → List ℕ → Type 0
+WidthFits s text = s.0 + length text < 2 ^ 64
 
 abbrev pub Counts : Width → List ℕ → Width → Type 0
 Counts s text t = t.0 ≡ s.0 + length text
 
-pub width_laws : SinkLaws Countable Counts
+pub width_laws : SinkLaws WidthFits Counts
 width_laws = record {
   nothing = λ s. omega arith;
   both = λ s t u x y a b. omega (arith, length-append x y);

@@ -4,7 +4,7 @@
 ghost use Rattle.std.specs.Prelude.{ℕ, List};
 ghost use Rattle.text.specs.Decimal.{print_number};
 ghost use Rattle.text.specs.Writing.{Room, Appends};
-ghost use Rattle.text.specs.Sinks.{SinkLaws, Countable, Counts, out_laws, width_laws};
+ghost use Rattle.text.specs.Sinks.{SinkLaws, WidthFits, Counts, out_laws, width_laws};
 
 use super::decimal::number_width;
 use super::out::Out;
@@ -49,7 +49,7 @@ impl<'a> Sink for Out<'a> {
 pub struct Width(pub usize);
 
 impl Sink for Width {
-    ghost room = { Countable };
+    ghost room = { WidthFits };
 
     ghost takes = { Counts };
 

@@ -1,4 +1,4 @@
--- The rows that are made of a net's arrays are the net's arcs, and their members are as many as it has arcs: a union has what
+-- The rows that are made of a net's sides are the net's arcs, and their members are as many as it has arcs: a union has what
 -- is named in one of its sets, and rows with the same members are the same. A row of names has a member that the row of arcs lacks
 -- exactly if that name isn't answered. Assumes nothing.
 use Prim.Native.Nat.{ℕ, zero, suc, ◌^◌, ◌<◌}

@@ -1,4 +1,4 @@
--- What the parts of the check compute, from the sides of a kind.
+-- What the parts of the check compute, from the sides of a kind, their lengths, and rows made of them.
 use Rattle.std.specs.Prelude.{ℕ, ◌≡◌, not, ◌&&◌, List, eqb, get_or, fold, sum_by}
 use Rattle.obligations.specs.Limits.{activities}
 use Rattle.obligations.specs.Sets.{member, union, minus, size}

@@ -7,7 +7,7 @@ use Rattle.logfile.specs.declared.Row.{Row}
 use borrow.Author.Rules.{rules}
 use Rattle.text.proofs.StoreLaws.{storing_start, storing_room, storing_more, storing_end}
 use Rattle.net.specs.declared.sides.Side.TheVariants.{Input, Output}
-use Rattle.net.proofs.OrderlyLaws.{orderly_arrays}
+use Rattle.net.proofs.OrderlyLaws.{orderly_fit}
 use Rattle.logfile.specs.Limits.{log_rows}
 use Rattle.search.specs.Replay.{outcome_means}
 use Rattle.report.specs.Report.{report_line, rows_text}
@@ -43,7 +43,7 @@ returns-in_default-there c =
     (rows_none a.net.now a.text.now (log_rows + 1 - l.row) l.row l.invariant.0.low (standing_none a.text.now l.row l.cursor l.trace l.invariant.0 x.result x.new.out x.ensures (no_given c.in-Ok.there x.result.answer c.in-Ok.is c.in_default-there.is)))
 
 pub replay_lent-outcome-requires-clause-sides : goal.replay_lent-outcome-requires-clause-sides
-replay_lent-outcome-requires-clause-sides c = (orderly_arrays c.args.net.now c.requires.orderly Input, orderly_arrays c.args.net.now c.requires.orderly Output)
+replay_lent-outcome-requires-clause-sides c = (orderly_fit c.args.net.now c.requires.orderly Input, orderly_fit c.args.net.now c.requires.orderly Output)
 
 pub replay_lent-outcome-requires-clause-trace_with_room : goal.replay_lent-outcome-requires-clause-trace_with_room
 replay_lent-outcome-requires-clause-trace_with_room c =

@@ -2,7 +2,7 @@
 use borrow.Author.Tests.{eq-eqb, ne_eqb}
 use Rattle.net.specs.declared.sides.Side.TheVariants.{Input, Output}
 use Rattle.net.specs.Contained.{contained}
-use Rattle.net.proofs.OrderlyLaws.{orderly_arrays}
+use Rattle.net.proofs.OrderlyLaws.{orderly_fit}
 use Rattle.net.proofs.containment.is_contained.Goals as goal
 use Rattle.net.proofs.containment.is_contained.Goals.{then-net-other-via-then-net-other, then-net-other-via-else-net-other+then-net-other-2}
 
@@ -16,12 +16,12 @@ returns-then-net-other c = elim c.then-net-other.branch [
 pub sides_within-requires : goal.sides_within-requires
 sides_within-requires c =
     let o = c.requires in
-    (orderly_arrays c.args.net.now o.0 Input, orderly_arrays c.args.other.now o.1 Input)
+    (orderly_fit c.args.net.now o.0 Input, orderly_fit c.args.other.now o.1 Input)
 
 pub sides_within-requires-then-sides_within : goal.sides_within-requires-then-sides_within
 sides_within-requires-then-sides_within c =
     let o = c.requires in
-    (orderly_arrays c.args.net.now o.0 Output, orderly_arrays c.args.other.now o.1 Output)
+    (orderly_fit c.args.net.now o.0 Output, orderly_fit c.args.other.now o.1 Output)
 
 pub returns-then-sides_within : goal.returns-then-sides_within
 unfolding contained

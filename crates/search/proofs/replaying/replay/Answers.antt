@@ -6,7 +6,7 @@ use Rattle.obligations.proofs.TraceLaws.{activities_below}
 use Rattle.net.specs.Refusals.{accepted, refused, no_activity}
 use Rattle.net.specs.declared.sides.Side.TheVariants.{Input, Output}
 use Rattle.net.specs.Traces.{no_activity_in}
-use Rattle.net.proofs.OrderlyLaws.{orderly_arrays}
+use Rattle.net.proofs.OrderlyLaws.{orderly_fit}
 use Rattle.net.proofs.UncountedLaws.{uncounted-orderly}
 use Rattle.walks.proofs.CheckLaws.{passing_rest, answer_clear, answer_refused}
 use Rattle.search.proofs.TraceLaws.{no_activity-ones, room_facts}
@@ -47,7 +47,7 @@ returns-in_err-check_lent c =
     rw (p.1, p.2) (refused_done g.net g.trace.now _ _ _ (net_decides ∙ answer_refused g.net c.check_lent.result c.check_lent.ensures (accepted 0) _ c.in_err-check_lent.was))
 
 pub replay_lent-requires-clause-sides : goal.replay_lent-requires-clause-sides
-replay_lent-requires-clause-sides c = let o = sym c.if-not-is_orderly.ensures in (orderly_arrays c.args.net o Input, orderly_arrays c.args.net o Output)
+replay_lent-requires-clause-sides c = let o = sym c.if-not-is_orderly.ensures in (orderly_fit c.args.net o Input, orderly_fit c.args.net o Output)
 
 pub replay_lent-requires-clause-trace_with_room : goal.replay_lent-requires-clause-trace_with_room
 replay_lent-requires-clause-trace_with_room c =

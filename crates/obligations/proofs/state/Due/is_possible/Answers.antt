@@ -1,4 +1,5 @@
--- `is_possible` meets its contract: the set is among those because of which the activity is due. Assumes nothing.
+-- `is_possible` meets its contract: a binding is possible exactly if its input set is among those because of which the activity is
+-- due. Assumes nothing.
 use Rattle.std.proofs.Common.{◌∙◌}
 use Rattle.obligations.proofs.CountLaws.{subset_possible}
 use Rattle.obligations.proofs.state.Due.is_possible.Goals as goal
