@@ -64,7 +64,7 @@ module _ (sides : Sides) (empty a m : ℕ) (o : OrderlySides sides empty) (h : a
           (zeros-behind (length own) (drop (sets * a) sides.counts) (zeros-behind (sets * a) sides.counts b))))
           ∙ rw l
 
-  -- so a put that doesn't move them is one that does
+  -- so a put that leaves them in place does what one that moves them does
   pub blank_done : (r : Result Placed Refusal) (put : Sides) → SideDone sides empty a m r put → CountedDone sides empty a m r put
   blank_done r put d = record { said = d.said; sides_are = same_sides put _ d.masks_are d.lengths_are (d.counts_stay ∙ z ∙ sym put_blank) }
 

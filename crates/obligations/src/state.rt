@@ -175,7 +175,8 @@ fn outputs(a: u32, y: u32) -> Places
     }
 }
 
-// The places of the 32 counts that aren't zero. By a vector, which compares them all at once.
+// The places of the 32 counts that aren't zero. By a vector, which compares them all at once. Its mask has a bit for each count, so
+// that the cast loses none.
 fn nonzero(counts: &[u8]) -> u32
     requires { length counts.now ≡ activities }
     ensures { (k : ℕ) → k < activities → member result k ≡ not (eqb (get_or counts.now k 0) 0) }
