@@ -12,6 +12,7 @@ use lib.ListN.{length}
 use borrow.Author.Tests.{eqb-true, lt-ltb}
 use Rattle.obligations.proofs.BoolLaws.{false-not-true, or_cases}
 use Rattle.net.specs.Lists.{listed, ascends_above}
+use Rattle.net.proofs.PlaceLaws.{Ascending, above_ascending}
 use Rattle.net.proofs.ListLaws.{none_listed, listed-first, listed-later, ascends_tail, ascends-not-listed}
 
 abbrev Among : List ℕ → List ℕ → Type 0
@@ -53,18 +54,16 @@ ascending-within p q (x ∷ xs) (y ∷ ys) a b f =
           ]
     ]
 
-pub ascending-same : (p q : ℕ) (l k : List ℕ) → ascends_above p l ≡ true → ascends_above q k ≡ true → Among l k → Among k l → l ≡ k
-ascending-same p q [] [] a b f g = refl
-ascending-same p q [] (y ∷ ys) a b f g = absurd (false-not-true (none_listed y) (g y (listed-first y ys)))
-ascending-same p q (x ∷ xs) [] a b f g = absurd (false-not-true (none_listed x) (f x (listed-first x xs)))
-ascending-same p q (x ∷ xs) (y ∷ ys) a b f g =
-    let s = ascends_tail p x xs a in
-    let t = ascends_tail q y ys b in
-    elim (dec_eq x y) [
-      | yes e ↦ rw (← e) (ap (λ (r : List ℕ). x ∷ r) (ascending-same x y xs ys s t (among_tails x xs ys s (rw (← e) at f)) (among_tails x ys xs (rw (← e) at t) (rw (← e) at g))))
-      | no d ↦
-          elim (dec_lt x y) [
-            | yes u ↦ absurd (below_first x y ys u t (f x (listed-first x xs)))
-            | no u ↦ absurd (below_first y x xs (omega arith) s (g y (listed-first y ys)))
-          ]
-    ]
+pub ascending-same : (l k : List ℕ) → Ascending l → Ascending k → Among l k → Among k l → l ≡ k
+ascending-same [] [] a b f g = refl
+ascending-same [] (y ∷ ys) a b f g = absurd (false-not-true (none_listed y) (g y (listed-first y ys)))
+ascending-same (x ∷ xs) [] a b f g = absurd (false-not-true (none_listed x) (f x (listed-first x xs)))
+ascending-same (x ∷ xs) (y ∷ ys) a b f g = elim (dec_eq x y) [
+  | yes e ↦
+      rw (← e)
+      (ap (◌∷◌ x) (ascending-same xs ys (above_ascending x xs a) (above_ascending y ys b) (among_tails x xs ys a (rw (← e) at f)) (among_tails x ys xs (rw (← e) at b) (rw (← e) at g))))
+  | no d ↦ elim (dec_lt x y) [
+    | yes u ↦ absurd (below_first x y ys u b (f x (listed-first x xs)))
+    | no u ↦ absurd (below_first y x xs (omega arith) a (g y (listed-first y ys)))
+  ]
+]

@@ -17,6 +17,7 @@ pub mod FreshLaws
 pub mod ContainedLaws
 pub mod UncountedLaws
 pub mod AscendingLaws
+pub mod SameLaws
 pub mod DistinctLaws
 pub mod CommonLaws
 pub mod RefusalLaws

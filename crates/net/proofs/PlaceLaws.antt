@@ -1,10 +1,10 @@
 -- The place of a set on an ascending side, and the counts beside the sets: a set that is there stands at its place, and its
--- count is the one at that place; an insertion keeps every count, and a raise adds one to its own. Each goes along the two
--- lists. Assumes nothing.
+-- count is the one at that place; the count of each set determines the list of counts; an insertion keeps every count, and a raise adds
+-- one to its own. Each goes along the two lists. Assumes nothing.
 use Prim.Native.Nat.{ℕ, zero, suc, ◌+◌, ◌<◌, ◌≤◌}
 use native.Mathlib.Decide.{ℕ_discrete as dec_eq, dec_lt}
 use native.Mathlib.Omega.{arith}
-use mathlib.Core.Path.{◌≡◌, refl, sym, ◌∙◌}
+use mathlib.Core.Path.{◌≡◌, refl, sym, ap, ◌∙◌}
 use mathlib.Core.Bool.{true, false}
 use mathlib.Core.List.{List, [], ◌∷◌}
 use mathlib.Core.Logic.{⊎_elim}
@@ -91,6 +91,22 @@ count-insert x (suc i) m [] [] n d = elim (dec_eq m x) [ yes e ↦ rw (eq-eqb m 
 count-insert x (suc i) m [] (c ∷ cs) n d = absurd (omega arith)
 count-insert x (suc i) m (y ∷ ys) [] n d = absurd (omega arith)
 count-insert x (suc i) m (y ∷ ys) (c ∷ cs) n d = rw (count-insert x i m ys cs (omega arith) (or_neither (eqb y m) (listed m ys) d).1)
+
+-- counts beside the same ascending sets are the same list if each set has the same count
+pub counts_determined : (ms cs ds : List ℕ) → Ascending ms → length cs ≡ length ms → length ds ≡ length ms → ((m : ℕ) → count_in m ms cs ≡ count_in m ms ds) → cs ≡ ds
+unfolding count_in
+counts_determined [] [] [] a l k e = refl
+counts_determined [] [] (d ∷ ds) a l k e = absurd (omega arith)
+counts_determined [] (c ∷ cs) ds a l k e = absurd (omega arith)
+counts_determined (x ∷ xs) [] ds a l k e = absurd (omega arith)
+counts_determined (x ∷ xs) (c ∷ cs) [] a l k e = absurd (omega arith)
+counts_determined (x ∷ xs) (c ∷ cs) (d ∷ ds) a l k e = rw (rw (eq-eqb x x refl) at (e x)) (ap (◌∷◌ d) (counts_determined xs cs ds (above_ascending x xs a) (omega arith) (omega arith) behind))
+  where
+    behind : (m : ℕ) → count_in m xs cs ≡ count_in m xs ds
+    behind m = elim (dec_eq x m) [
+      | yes q ↦ let n = ascends-not-listed x m xs (omega arith) a in count_absent m xs cs n ∙ sym (count_absent m xs ds n)
+      | no q ↦ rw (ne_eqb x m q) at (e m)
+    ]
 
 -- one more use of m
 pub count-raise : (x m : ℕ) (ms cs : List ℕ) → Ascending ms → length cs ≡ length ms → listed m ms ≡ true

@@ -77,6 +77,10 @@ module _ (net : Net) (o : orderly net ≡ true) (side : Side) (a : ℕ) (h : a <
     | no d ↦ ascending-distinct 0 (sets_on net side a) (plain_side_ok (sides_of net side) (empty_at net side) (orderly_sides net o side) a h d).0
   ]
 
+  -- a side has at most 16 sets
+  pub few_on_side : AtMost sets (OnSide net side a)
+  few_on_side = (at_most-listed sets (OnSide net side a) (sets_on net side a) side_distinct (λ m. ((λ i. i), (λ i. i)))).0 (omega (arith, sets_length net o side a h, orderly_at_most net o side a h))
+
   -- how many sets a side has together with m
   pub room_exactly : (m : ℕ) → (listed m (sets_on net side a) || not (eqb (get_or (lengths_of net side) a 0) sets) ≡ true) ↔ AtMost sets (λ x. OnSide net side a x ⊎ (x ≡ m))
   room_exactly m = elim (true_or_false (listed m (sets_on net side a))) [

@@ -15,12 +15,13 @@ use Rattle.net.specs.Orderly.{Orderly, ends_ok, orderly}
 use Rattle.net.specs.Fresh.{fresh_net, fresh_refusals, fresh_says, fresh_gives}
 use Rattle.net.specs.Put.{put_refusals, put_says, put_gives}
 use Rattle.net.specs.Contained.{Contained, contained, contained_says}
-use Rattle.net.specs.Statements.{PapersOrder, OrderlyTestRight, ContainedTestRight, FreshSaid, FreshHolds, FreshRefused, Put, PutSaid, PutHolds, PutRefusedSame, ContainedSaid, ContainedPassesOver, FreshListed, PutListed, ContainedListed}
+use Rattle.net.specs.Statements.{PapersOrder, OrderlyTestRight, AlikeEqual, ContainedTestRight, FreshSaid, FreshHolds, FreshRefused, Put, PutSaid, PutHolds, PutRefusedSame, ContainedSaid, ContainedPassesOver, FreshListed, PutListed, ContainedListed}
 use Rattle.net.specs.declared.Net.{Net}
 use Rattle.net.specs.declared.sides.Side.{Side}
 use Rattle.net.proofs.SentenceLaws.{Told, told-accepted, told-value}
 use Rattle.net.proofs.PlaceLaws.{count_absent}
 use Rattle.net.proofs.OrderlyLaws.{orderly_facts, facts_orderly}
+use Rattle.net.proofs.SameLaws.{alike_same}
 use Rattle.net.proofs.FreshLaws.{fresh_start, fresh-end, fresh_on_side, fresh_unused, fresh_orderly}
 use Rattle.net.proofs.PutLaws.{put_refused, put_accepted, put_start, put_end, put_orderly, put_on_side, put_size, put_count}
 use Rattle.net.proofs.UncountedLaws.{passes_over, first-uncounted, second-uncounted}
@@ -40,6 +41,9 @@ papers_order = record {
 
 pub orderly_test_right : OrderlyTestRight
 orderly_test_right net = (orderly_facts net, facts_orderly net)
+
+pub alike_equal : AlikeEqual
+alike_equal net other o q = alike_same net other (facts_orderly net o) (facts_orderly other q)
 
 pub contained_test_right : ContainedTestRight
 contained_test_right net other = (contained_facts net other, facts_contained net other)

@@ -1,6 +1,7 @@
 -- What is proved of the definitions (01, "The net and its sets", "Learning and containment"): the order of refusals is that of their
--- numbers, but for 19 (02, (iv)); the tests are the facts that the paper states, a fresh net holds two empty sets and nothing else,
--- put adds one set to one side and nothing else, and containment passes over the counts. The proofs are in proofs/Theorems.antt.
+-- numbers, but for 19 (02, (iv)); the tests are the facts that the paper states; an orderly record is determined by its start, its end,
+-- and the sets on its sides with their counts; a fresh net holds two empty sets and nothing else, put adds one set to one side and
+-- nothing else, and containment passes over the counts. The proofs are in proofs/Theorems.antt.
 use Rattle.std.specs.Prelude.{ℕ, ◌+◌, ◌<◌, ◌≡◌, true, false, Ok, ◌↔◌, ◌⊎◌}
 use Rattle.net.specs.Sides.{empty_at, SameButCounts, count_of, OnSide, net_size}
 use Rattle.net.specs.Refusals.{refused, on_no_walk, wrong_ends, name_unanswered}
@@ -21,6 +22,17 @@ pub record PapersOrder : Type 0 where
 -- the test of a record is the paper's
 abbrev pub OrderlyTestRight : Type 0
 OrderlyTestRight = (net : Net) → (orderly net ≡ true) ↔ Orderly net
+
+-- two nets have the same start and end, and on each side the same sets with the same counts of uses
+pub record Alike (net other : Net) : Type 0 where
+  pub same_start : net.start ≡ other.start
+  pub same_end : net.end ≡ other.end
+  pub same_sets : (side : Side) (a m : ℕ) → OnSide net side a m ↔ OnSide other side a m
+  pub same_counts : (side : Side) (a m : ℕ) → count_of net side a m ≡ count_of other side a m
+
+-- an orderly record is determined by this: two that are alike are equal, word for word (02, (ix))
+abbrev pub AlikeEqual : Type 0
+AlikeEqual = (net other : Net) → Orderly net → Orderly other → Alike net other → net ≡ other
 
 -- the test of containment is the paper's
 abbrev pub ContainedTestRight : Type 0
