@@ -1,43 +1,29 @@
--- No side would exceed 16 sets exactly if every put on the way is accepted. Where all are, the net's side afterwards lists the old
--- sets and the sequence's, none twice and at most 16; and a put that is refused shows a side of 16 sets and one more.
--- Assumes nothing.
+-- No side would exceed 16 sets exactly if every put on the way is accepted: a put that is refused shows a side of 16 sets and one
+-- more, and after a position whose puts are accepted the same is asked of the others, in the net that has gained it. Assumes nothing.
 use Prim.Native.Nat.{ℕ, suc, ◌<◌}
 use mathlib.Core.Path.{◌≡◌, refl, sym}
 use mathlib.Core.Bool.{true, false}
 use mathlib.Core.List.{List, [], ◌∷◌}
-use mathlib.Core.Logic.{◌↔◌, ◌⊎◌, inl, inr, ⊎_elim}
+use mathlib.Core.Logic.{◌↔◌, inl, inr, ⊎_elim}
 use native.Mathlib.Omega.{arith}
 use lib.ListN.{length}
 use Rattle.obligations.specs.Sequence.{at}
 use Rattle.obligations.specs.declared.sequence.Binding.{Binding}
 use Rattle.obligations.proofs.BoolLaws.{and_both, true_or_false}
-use Rattle.net.specs.Limits.{sets}
-use Rattle.net.specs.Sides.{sides_of, empty_at, sets_on, OnSide}
+use Rattle.net.specs.Sides.{sides_of, empty_at, sets_on}
 use Rattle.net.specs.Orderly.{orderly}
 use Rattle.net.specs.Put.{misplaced, side_says}
 use Rattle.net.specs.declared.Net.{Net}
 use Rattle.net.specs.declared.sides.Side.{Side}
 use Rattle.net.specs.declared.sides.Side.TheVariants.{Input, Output}
 use Rattle.net.proofs.PutSideLaws.{refused_full}
-use Rattle.net.proofs.OrderlyLaws.{sets_length, orderly_at_most}
-use Rattle.net.proofs.DistinctLaws.{distinct_more, at_most-listed, fewer}
+use Rattle.net.proofs.OrderlyLaws.{sets_length, orderly_facts}
+use Rattle.net.proofs.DistinctLaws.{distinct_more}
 use Rattle.net.proofs.ListLaws.{head_or_later}
 use Rattle.net.proofs.RefusalLaws.{side_distinct}
-use Rattle.sequences.specs.Gain.{with_use, takes_put, with_binding, takes_binding, gained, fits, set_for, SetOf, Fits}
-use Rattle.sequences.proofs.GrowthLaws.{Activities, with_binding_orderly, with_binding_on_side, set_first, set-later, gained-orderly, gained-on_side}
-
--- ---- where every put is accepted
-
-accepted-fits : (net : Net) (s : List Binding) → orderly net ≡ true → Activities s → fits net s ≡ true → Fits net s
-accepted-fits net s o h f =
-    let g = gained net s in
-    let q = gained-orderly net s o h f in
-    record {
-      at_most = λ t a l.
-          (at_most-listed sets (λ m. OnSide net t a m ⊎ SetOf t s a m) (sets_on g t a) (side_distinct g q t a l)
-          (λ m. ((gained-on_side net s o h f t a m).1, (gained-on_side net s o h f t a m).0))).0
-          (omega (arith, sets_length g q t a l, orderly_at_most g q t a l));
-    }
+use Rattle.sequences.specs.Gain.{with_use, takes_put, with_binding, takes_binding, fits, set_for, Fits}
+use Rattle.sequences.proofs.JoinLaws.{set_first, fits_nothing, fits_after, fits_both}
+use Rattle.sequences.proofs.GrowthLaws.{Activities, with_binding_orderly, with_binding_sets, fits-first, fits_rest}
 
 -- ---- where one is refused
 
@@ -58,12 +44,6 @@ module _ (net : Net) (b : Binding) (o : orderly net ≡ true) (h : b.activity < 
       ⊎_elim (λ t. full_exceeds Output s po (rw t at k) w) (λ f. full_exceeds Input s pi f w)
       (true_or_false (side_says net.inputs net.start b.activity b.input).ok)
 
-  -- the other positions fit after the first
-  fits_after : takes_binding net b ≡ true → (s : List Binding) → Fits net (b ∷ s) → Fits (with_binding net b) s
-  fits_after k s w = record {
-    at_most = λ t a l. fewer sets _ _ (λ m. ⊎_elim (λ n. ⊎_elim inl (λ e. inr (set_first t b s e.0 e.1)) ((with_binding_on_side net b o h k t a m).0 n)) (λ n. inr (set-later t b s n))) (w.at_most t a l);
-  }
-
 -- ---- a sequence
 
 -- no set is misplaced
@@ -76,9 +56,17 @@ fits-accepted net [] o h p w = refl
 fits-accepted net (b ∷ s) o h p w =
     let h₀ = h 0 (omega arith) in
     ⊎_elim
-    (λ k. and_both k (fits-accepted (with_binding net b) s (with_binding_orderly net b o h₀ k) (λ i l. h (suc i) (omega arith)) (λ i l. p (suc i) (omega arith)) (fits_after net b o h₀ k s w)))
+    (λ k. and_both k (fits-accepted (with_binding net b) s (with_binding_orderly net b o h₀ k) (λ i l. h (suc i) (omega arith)) (λ i l. p (suc i) (omega arith)) (fits_after net (with_binding net b) (b ∷ []) s (with_binding_sets net b o h₀ k) w)))
     (λ k. absurd (refused_exceeds net b o h₀ (p 0 (omega arith)).0 (p 0 (omega arith)).1 s k w))
     (true_or_false (takes_binding net b))
+
+accepted-fits : (net : Net) (s : List Binding) → orderly net ≡ true → Activities s → fits net s ≡ true → Fits net s
+accepted-fits net [] o h f = fits_nothing net (orderly_facts net o)
+accepted-fits net (b ∷ s) o h f =
+    let h₀ = h 0 (omega arith) in
+    let k = fits-first net b s f in
+    fits_both net (with_binding net b) (b ∷ []) s (with_binding_sets net b o h₀ k)
+    (accepted-fits (with_binding net b) s (with_binding_orderly net b o h₀ k) (λ i l. h (suc i) (omega arith)) (fits_rest net b s f))
 
 pub fits_exactly : (net : Net) (s : List Binding) → orderly net ≡ true → Activities s → Placed net s → (fits net s ≡ true) ↔ Fits net s
 fits_exactly net s o h p = (accepted-fits net s o h, fits-accepted net s o h p)

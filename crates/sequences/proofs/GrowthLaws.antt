@@ -1,8 +1,8 @@
--- The net after it gained a sequence's sets: it is orderly, has the same start and end and no fewer sets, and each side holds
--- exactly what it held and what the sequence has for it. Beside the counts each use is one of `net`'s puts, so its laws carry over
--- position by position. Of the counts a put changes none, and the raise behind it adds one to its set's, if that is below its top.
--- Assumes nothing.
-use Prim.Native.Nat.{ℕ, zero, suc, ◌+◌, ◌≤◌, ◌<◌}
+-- The net after it gained one position's sets: it is orderly, has the same start and end and no fewer sets, and each side holds
+-- exactly what it held and what the position has for it. Beside the counts each use is one of `net`'s puts, so its laws carry over. Of
+-- the counts a put changes none, and the raise behind it adds one to its set's, if that is below its top. A whole
+-- sequence takes no set away. Assumes nothing.
+use Prim.Native.Nat.{ℕ, suc, ◌+◌, ◌≤◌, ◌<◌}
 use mathlib.Core.Path.{◌≡◌, refl, sym, ap, ◌∙◌}
 use mathlib.Core.Bool.{true, ◌&&◌}
 use mathlib.Core.List.{List, [], ◌∷◌}
@@ -31,8 +31,9 @@ use Rattle.net.proofs.OrderlyLaws.{orderly_sides, orderly_counts}
 use Rattle.net.proofs.PutSideLaws.{put_side_orderly, put_side_counted, put_side_holds, put_side_count, put_side_sum, place_kept}
 use Rattle.net.proofs.WithSidesLaws.{with_start, with_end, with_own, with_orderly}
 use Rattle.net.proofs.PutLaws.{put_says_side, put_gives_sides, put_refused, put_on_side, put_size}
-use Rattle.net.proofs.ContainedLaws.{contained-refl, contained_trans, put-contained}
-use Rattle.sequences.specs.Gain.{raised_at, topped_at, used_sides, with_use, takes_put, topped_use, with_binding, takes_binding, topped_binding, gained, fits, set_for, SetOf}
+use Rattle.net.proofs.ContainedLaws.{contained_trans, put-contained}
+use Rattle.sequences.specs.Gain.{raised_at, topped_at, used_sides, with_use, takes_put, topped_use, with_binding, takes_binding, topped_binding, gained, fits, set_for}
+use Rattle.sequences.proofs.JoinLaws.{set_first, only_set, SetsGained}
 use Rattle.sequences.proofs.UseLaws.{raised_orderly, topped_exactly, raised_count, raised_sum, used_orderly}
 
 -- ---- one use
@@ -184,7 +185,7 @@ module _ (net : Net) (b : Binding) (o : orderly net ≡ true) (h : b.activity < 
     unfolding with_binding
     with_binding_orderly = with_use_orderly between Output b.activity b.output between_orderly h takes_output
 
-    with_binding_contained : Contained net (with_binding net b)
+    pub with_binding_contained : Contained net (with_binding net b)
     unfolding with_binding
     with_binding_contained =
         contained_trans net between (with_use between Output b.activity b.output) (with_use_contained net Input b.activity b.input o h) (with_use_contained between Output b.activity b.output between_orderly h)
@@ -193,13 +194,13 @@ module _ (net : Net) (b : Binding) (o : orderly net ≡ true) (h : b.activity < 
     unfolding with_binding
     with_binding_size = omega (arith, with_use_size net Input b.activity b.input o h, with_use_size between Output b.activity b.output between_orderly h)
 
-    pub with_binding_on_side : (t : Side) (a m : ℕ) → OnSide (with_binding net b) t a m ↔ (OnSide net t a m ⊎ ((b.activity ≡ a) × (set_for t b ≡ m)))
+    pub with_binding_sets : SetsGained net (b ∷ []) (with_binding net b)
     unfolding with_binding
-    with_binding_on_side t a m =
+    with_binding_sets t a m =
         let ix = with_use_on_side net Input b.activity b.input o h takes_input t a m in
         let iy = with_use_on_side between Output b.activity b.output between_orderly h takes_output t a m in (
-          (λ p. ⊎_elim (λ q. ⊎_elim (λ n. inl n) (λ w. inr (sym w.1, of_input t w.0 ∙ sym w.2)) (ix.0 q)) (λ w. inr (sym w.1, of_output t w.0 ∙ sym w.2)) (iy.0 p)),
-          (λ p. ⊎_elim (λ n. iy.1 (inl (ix.1 (inl n)))) (λ w. own t ix iy w.0 w.1) p),
+          (λ p. ⊎_elim (λ q. ⊎_elim inl (λ w. inr (set_first t b [] (sym w.1) (of_input t w.0 ∙ sym w.2))) (ix.0 q)) (λ w. inr (set_first t b [] (sym w.1) (of_output t w.0 ∙ sym w.2))) (iy.0 p)),
+          (λ p. ⊎_elim (λ n. iy.1 (inl (ix.1 (inl n)))) (λ f. let w = only_set t b f in own t ix iy w.0 w.1) p),
         )
       where
         of_input : (t : Side) → t ≡ Input → set_for t b ≡ b.input
@@ -263,50 +264,9 @@ pub fits_rest : (net : Net) (b : Binding) (s : List Binding) → fits net (b ∷
 unfolding fits
 fits_rest net b s f = and_right (takes_binding net b) (fits (with_binding net b) s) f
 
-pub gained-orderly : (net : Net) (s : List Binding) → orderly net ≡ true → Activities s → fits net s ≡ true → orderly (gained net s) ≡ true
-unfolding gained
-gained-orderly net [] o h f = o
-gained-orderly net (b ∷ s) o h f =
-    gained-orderly (with_binding net b) s (with_binding_orderly net b o (h 0 (omega arith)) (fits-first net b s f)) (λ i l. h (suc i) (omega arith)) (fits_rest net b s f)
-
-pub gained-contained : (net : Net) (s : List Binding) → orderly net ≡ true → Activities s → fits net s ≡ true → Contained net (gained net s)
-unfolding gained
-gained-contained net [] o h f = contained-refl net
-gained-contained net (b ∷ s) o h f =
-    let k = fits-first net b s f in
-    contained_trans net (with_binding net b) (gained (with_binding net b) s) (with_binding_contained net b o (h 0 (omega arith)) k)
-    (gained-contained (with_binding net b) s (with_binding_orderly net b o (h 0 (omega arith)) k) (λ i l. h (suc i) (omega arith)) (fits_rest net b s f))
-
 pub gained-size : (net : Net) (s : List Binding) → orderly net ≡ true → Activities s → fits net s ≡ true → net_size net ≤ net_size (gained net s)
 unfolding gained
 gained-size net [] o h f = omega arith
 gained-size net (b ∷ s) o h f =
     let k = fits-first net b s f in
     omega (arith, with_binding_size net b o (h 0 (omega arith)) k, gained-size (with_binding net b) s (with_binding_orderly net b o (h 0 (omega arith)) k) (λ i l. h (suc i) (omega arith)) (fits_rest net b s f))
-
--- the sets that a sequence has for a side, at its first position or after it
-pub set_first : (t : Side) (b : Binding) (s : List Binding) {a m : ℕ} → b.activity ≡ a → set_for t b ≡ m → SetOf t (b ∷ s) a m
-set_first t b s ea em = record { position = 0; inside = omega arith; activity_is = ea; set_is = em }
-
-pub set-later : (t : Side) (b : Binding) (s : List Binding) {a m : ℕ} → SetOf t s a m → SetOf t (b ∷ s) a m
-set-later t b s f = record { position = suc f.position; inside = omega (arith, f.inside); activity_is = f.activity_is; set_is = f.set_is }
-
-pub set_cases : (t : Side) (b : Binding) (s : List Binding) {a m : ℕ} → SetOf t (b ∷ s) a m → ((b.activity ≡ a) × (set_for t b ≡ m)) ⊎ SetOf t s a m
-set_cases t b s {a} {m} f = go f.position f.inside f.activity_is f.set_is
-  where
-    go : (i : ℕ) → i < suc (length s) → (at (b ∷ s) i).activity ≡ a → set_for t (at (b ∷ s) i) ≡ m → ((b.activity ≡ a) × (set_for t b ≡ m)) ⊎ SetOf t s a m
-    go zero l ea em = inl (ea, em)
-    go (suc i) l ea em = inr (record { position = i; inside = omega arith; activity_is = ea; set_is = em })
-
--- after an accepted gain each side holds exactly its old sets and the sequence's
-pub gained-on_side : (net : Net) (s : List Binding) → orderly net ≡ true → Activities s → fits net s ≡ true → (t : Side) (a m : ℕ)
-    → OnSide (gained net s) t a m ↔ (OnSide net t a m ⊎ SetOf t s a m)
-unfolding gained
-gained-on_side net [] o h f t a m = ((λ p. inl p), (λ p. ⊎_elim (λ q. q) (λ q. absurd (omega (arith, q.inside))) p))
-gained-on_side net (b ∷ s) o h f t a m =
-    let k = fits-first net b s f in
-    let one = with_binding_on_side net b o (h 0 (omega arith)) k t a m in
-    let rest = gained-on_side (with_binding net b) s (with_binding_orderly net b o (h 0 (omega arith)) k) (λ i l. h (suc i) (omega arith)) (fits_rest net b s f) t a m in (
-      (λ p. ⊎_elim (λ q. ⊎_elim (λ n. inl n) (λ w. inr (set_first t b s w.0 w.1)) (one.0 q)) (λ q. inr (set-later t b s q)) (rest.0 p)),
-      (λ p. ⊎_elim (λ n. rest.1 (inl (one.1 (inl n)))) (λ q. ⊎_elim (λ w. rest.1 (inl (one.1 (inr w)))) (λ w. rest.1 (inr w)) (set_cases t b s q)) p),
-    )

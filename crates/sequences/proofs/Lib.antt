@@ -7,6 +7,7 @@ pub mod GainLaws
 pub mod LearnLaws
 pub mod FollowLaws
 pub mod UseLaws
+pub mod JoinLaws
 pub mod GrowthLaws
 pub mod CountLaws
 pub mod FitLaws

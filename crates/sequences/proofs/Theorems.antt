@@ -1,14 +1,14 @@
 -- The statements of specs/Statements.antt. Assumes nothing.
 use Prim.Native.Nat.{ℕ, ◌+◌, ◌-◌}
 use native.Mathlib.Omega.{arith}
-use mathlib.Core.Path.{◌≡◌, refl, sym, ap, subst, ◌∙◌}
+use mathlib.Core.Path.{◌≡◌, refl, sym, ap, ◌∙◌}
 use mathlib.Core.Bool.{true}
 use mathlib.Core.List.{List, [], ◌∷◌}
-use mathlib.Core.Logic.{◌↔◌, inr}
+use mathlib.Core.Logic.{◌↔◌}
 use borrow.Author.Tests.{eqb-true}
 use lib.ListN.{length}
 use Rattle.obligations.specs.State.{nothing}
-use Rattle.obligations.specs.Sequence.{bindings, at, WellFormed}
+use Rattle.obligations.specs.Sequence.{bindings}
 use Rattle.obligations.proofs.SequenceLaws.{length-bindings, each_possible-from}
 use Rattle.net.specs.Refusals.{Says, accepted, missing_set, name_unanswered}
 use Rattle.net.specs.Sentences.{first}
@@ -16,8 +16,7 @@ use Rattle.net.specs.Common.{not_orderly, not_activities, not_shaped}
 use Rattle.net.specs.Sides.{net_size}
 use Rattle.net.specs.Orderly.{orderly}
 use Rattle.net.specs.declared.Net.{Net}
-use Rattle.net.specs.declared.sides.Side.TheVariants.{Input, Output}
-use Rattle.net.proofs.OrderlyLaws.{orderly_facts, facts_orderly}
+use Rattle.net.proofs.OrderlyLaws.{facts_orderly}
 use Rattle.net.proofs.SentenceLaws.{given_exactly, told-accepted, told-value, told-ok}
 use Rattle.net.proofs.UncountedLaws.{passes_over}
 use Rattle.walks.specs.Check.{activity_on_no_walk, unanswered_name}
@@ -27,14 +26,15 @@ use Rattle.sequences.specs.Gain.{gained, fits, topped}
 use Rattle.sequences.specs.Learn.{learn_refusals, new_sets, learn_says, learn_gives}
 use Rattle.sequences.specs.Follow.{follow_gives}
 use Rattle.sequences.specs.Judge.{Missing, judge_refusals, judge_says}
-use Rattle.sequences.specs.Statements.{LearnListed, FollowListed, JudgeListed, JudgeUnanswered, NoneHoldsLearnable, LearnAccepts, FitsTestRight, CountableTestRight, LearnHolds, LearnAddsUp, LearnValid, RefusedSame, FollowLearns, Judgeable, NoneHoldsJudgeable, JudgeAccepts, LargestIsPeak, PeakWithin, PeakBelow, JudgePassesOver}
+use Rattle.sequences.specs.Statements.{LearnListed, FollowListed, JudgeListed, JudgeUnanswered, NoneHoldsLearnable, LearnAccepts, FitsTestRight, CountableTestRight, LearnHolds, LearnAddsUp, GainsDetermined, LearnValid, RefusedSame, FollowLearns, Judgeable, NoneHoldsJudgeable, JudgeAccepts, LargestIsPeak, PeakWithin, PeakBelow, JudgePassesOver}
 use Rattle.sequences.proofs.AcceptLaws.{fits_formed, formed_possible, accepted_learnable, learnable_accepted}
 use Rattle.sequences.proofs.PeakLaws.{largest_exactly, peak_bounded, sizes_bounded}
 use Rattle.sequences.proofs.JudgeLaws.{judge-uncounted}
 use Rattle.sequences.proofs.ValidLaws.{accepted_judgeable, judgeable_accepted}
 use Rattle.sequences.proofs.RefusalLaws.{learn-told, learn-listed, follow_listed, judge-told, judge-listed}
-use Rattle.sequences.proofs.CountLaws.{gained-count, gained_sum, countable_exactly}
-use Rattle.sequences.proofs.GrowthLaws.{Activities, gained-orderly, gained-contained, gained-size, gained-on_side}
+use Rattle.sequences.proofs.CountLaws.{gained_gains, gained_sum, countable_exactly}
+use Rattle.sequences.proofs.GrowthLaws.{Activities, gained-size}
+use Rattle.sequences.proofs.JoinLaws.{gained-valid, gains_same}
 use Rattle.sequences.proofs.FollowLearnLaws.{follow-is-learn}
 
 -- ---- the refusals
@@ -117,36 +117,21 @@ learn-accepts net ws new = (
 
 pub learn-holds : LearnHolds
 learn-holds net ws new said =
-    let e = ap (λ (s : Says). s.ok) said in
-    let p = accepted_parts net ws e in
-    let g = learn_gives_lem net ws new said in
-    let c = gained-contained net (bindings ws) p.net_orderly p.activities_only p.fitting in
-    record {
-      same_start = ap (λ (n : Net). n.start) g ∙ sym c.same_start;
-      same_end = ap (λ (n : Net). n.end) g ∙ sym c.same_end;
-      is_orderly = orderly_facts (learn_gives net ws) (ap orderly g ∙ gained-orderly net (bindings ws) p.net_orderly p.activities_only p.fitting);
-      on_sides = λ side a m. rw g (gained-on_side net (bindings ws) p.net_orderly p.activities_only p.fitting side a m);
-      counted = λ side a m. rw g (gained-count net (bindings ws) p.net_orderly p.activities_only p.fitting p.clear side a m);
-    }
+    let p = accepted_parts net ws (ap (λ (s : Says). s.ok) said) in
+    rw (learn_gives_lem net ws new said) (gained_gains net (bindings ws) p.net_orderly p.activities_only p.fitting p.clear)
 
 pub learn-adds_up : LearnAddsUp
 learn-adds_up net ws new said side a =
     let p = accepted_parts net ws (ap (λ (s : Says). s.ok) said) in
     rw (learn_gives_lem net ws new said) (gained_sum net (bindings ws) p.net_orderly p.activities_only p.fitting p.clear side a)
 
+pub gains_determined : GainsDetermined
+gains_determined = gains_same
+
 pub learn-valid : LearnValid
 learn-valid net ws new said =
-    let e = ap (λ (s : Says). s.ok) said in
-    let s = bindings ws in
-    let p = accepted_parts net ws e in
-    let k = gained-contained net s p.net_orderly p.activities_only p.fitting in
-    let f = (accepted_learnable net ws e).well_formed in
-    rw (learn_gives_lem net ws new said)
-    (record {
-      well_formed = subst (λ (b : ℕ). WellFormed (gained net s).start b s) k.same_end (subst (λ (a : ℕ). WellFormed a net.end s) k.same_start f);
-      inputs_on_side = λ i l. (gained-on_side net s p.net_orderly p.activities_only p.fitting Input (at s i).activity (at s i).input).1 (inr (record { position = i; inside = l; activity_is = refl; set_is = refl }));
-      outputs_on_side = λ i l. (gained-on_side net s p.net_orderly p.activities_only p.fitting Output (at s i).activity (at s i).output).1 (inr (record { position = i; inside = l; activity_is = refl; set_is = refl }));
-    })
+    gained-valid net (learn_gives net ws) (bindings ws) (bindings ws) (λ t a m. omega arith) (learn-holds net ws new said)
+    (accepted_learnable net ws (ap (λ (s : Says). s.ok) said)).well_formed
 
 pub follow_learns : FollowLearns
 follow_learns = follow-is-learn

@@ -1,6 +1,6 @@
 -- What is proved of the definitions: each call is refused as listed, which sequences are learned and judged valid, what the net
--- then holds and has counted, that following is learning, and that judge passes over counts. The proofs are in
--- proofs/Theorems.antt.
+-- then holds and has counted, that it depends on nothing but how often each set is used, that following is learning, and that judge
+-- passes over counts. The proofs are in proofs/Theorems.antt.
 use Rattle.std.specs.Prelude.{ℕ, ◌+◌, ◌*◌, ◌≤◌, ◌<◌, ◌≡◌, true, List, [], ◌∷◌, ◌↔◌, length, get_or}
 use Rattle.obligations.specs.Limits.{activities, masks, positions}
 use Rattle.obligations.specs.State.{nothing, total}
@@ -18,7 +18,7 @@ use Rattle.walks.specs.Walk.{Passes}
 use Rattle.walks.specs.Check.{activity_on_no_walk, Unanswered}
 use Rattle.sequences.specs.Limits.{activity_of, not_sequence}
 use Rattle.sequences.specs.Run.{total_after, Peak, largest_total, output_sizes}
-use Rattle.sequences.specs.Gain.{occurrences_of, Fits, Countable, Gains, fits, countable}
+use Rattle.sequences.specs.Gain.{uses, occurrences_of, Fits, Countable, Gains, fits, countable}
 use Rattle.sequences.specs.Learn.{learn_refusals, learn_says, learn_gives}
 use Rattle.sequences.specs.Judge.{judge_refusals, judge_says}
 use Rattle.sequences.specs.Follow.{followed, follow_refusals, follow_says, follow_gives}
@@ -82,6 +82,14 @@ abbrev pub LearnAddsUp : Type 0
 LearnAddsUp =
     (net : Net) (ws : List ℕ) (new : ℕ) → learn_says net ws ≡ accepted new
     → (side : Side) (a : ℕ) → total (counts_on (learn_gives net ws) side a) ≡ total (counts_on net side a) + occurrences_of (bindings ws) a
+
+-- two sequences use each set on each activity's side equally often
+abbrev pub SameUses : List Binding → List Binding → Type 0
+SameUses s s' = (side : Side) (a m : ℕ) → uses side s a m ≡ uses side s' a m
+
+-- what a net gains depends on nothing else: by sequences with the same uses it becomes the same net, word for word (02, (ix))
+abbrev pub GainsDetermined : Type 0
+GainsDetermined = (net : Net) (s s' : List Binding) (after after' : Net) → SameUses s s' → Gains net s after → Gains net s' after' → after ≡ after'
 
 -- an accepted sequence is valid in the net that learn returns
 abbrev pub LearnValid : Type 0
