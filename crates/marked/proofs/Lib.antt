@@ -1,2 +1,3 @@
 -- The marked examples, and lists of calls of each kind, computed.
 pub mod Examples
+pub mod Orders

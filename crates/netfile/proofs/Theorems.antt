@@ -185,7 +185,7 @@ text-uncounted net = rw (lines-uncounted net activities 0)
 
 pub write-passes_over : WritePassesOver
 unfolding write_says write_gives
-write-passes_over net other buf o q e = (
+write-passes_over net other o q e buf = (
   passes_over (λ n. write_says n (length buf)) (λ n h. rw (uncounted-orderly n h, h, text-uncounted n)) net other o q e,
   passes_over (λ n. write_gives n buf) (λ n h. rw (uncounted-orderly n h, h, text-uncounted n)) net other o q e,
 )

@@ -129,11 +129,13 @@ WrittenRead =
     (net : Net) (buf : List ℕ) (n : ℕ) → Masks net → write_says net (length buf) ≡ accepted n
     → read_net (take n (write_gives net buf)) ≡ read_as (uncounted net)
 
--- the writer passes over the counts of orderly records
+-- the writer says the same of both nets and leaves the same text in whatever buffer it is lent, byte for byte
+abbrev pub SameText : Net → Net → Type 0
+SameText net other = (buf : List ℕ) → (write_says net (length buf) ≡ write_says other (length buf)) × (write_gives net buf ≡ write_gives other buf)
+
+-- it passes over the counts of orderly records
 abbrev pub WritePassesOver : Type 0
-WritePassesOver =
-    (net other : Net) (buf : List ℕ) → Orderly net → Orderly other → SameButCounts net other
-    → (write_says net (length buf) ≡ write_says other (length buf)) × (write_gives net buf ≡ write_gives other buf)
+WritePassesOver = (net other : Net) → Orderly net → Orderly other → SameButCounts net other → SameText net other
 
 -- what was read and accepted, written and read again, is the same
 abbrev pub ReadAgain : Type 0

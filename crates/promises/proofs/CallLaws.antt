@@ -6,7 +6,7 @@ use mathlib.Core.List.{List}
 use mathlib.Core.Logic.{◌↔◌}
 use native.Mathlib.Omega.{arith}
 use Rattle.obligations.specs.State.{total}
-use Rattle.obligations.specs.Sequence.{bindings, words}
+use Rattle.obligations.specs.Sequence.{bindings}
 use Rattle.obligations.specs.declared.sequence.Binding.{Binding}
 use Rattle.obligations.proofs.SequenceLaws.{bindings-words, held_at}
 use Rattle.net.specs.Refusals.{accepted, refused}
@@ -18,14 +18,14 @@ use Rattle.net.specs.declared.sides.Side.{Side}
 use Rattle.net.specs.declared.sides.Side.TheVariants.{Input, Output}
 use Rattle.net.proofs.SentenceLaws.{Told, told-accepted}
 use Rattle.sequences.specs.Gain.{occurrences_of, Gains}
-use Rattle.sequences.specs.Learn.{new_sets, learn_says, learn_gives}
+use Rattle.sequences.specs.Learn.{learn_refusals, new_sets, learn_says, learn_gives}
 use Rattle.sequences.specs.Follow.{followed}
-use Rattle.sequences.specs.Statements.{Words}
+use Rattle.sequences.specs.Statements.{Words, Learnable}
 use Rattle.sequences.proofs.FollowLaws.{words-followed}
 use Rattle.sequences.proofs.FollowLearnLaws.{follow-is-learn}
 use Rattle.sequences.proofs.RefusalLaws.{learn-told, learn-listed, follow_told, follow_listed}
-use Rattle.sequences.proofs.Theorems.{learn-accepts, learn-holds, learn-adds_up, learn-valid, refused-same}
-use Rattle.promises.specs.Calls.{Call, learn, follow, words_of, sequence_of, refusals, says, gives}
+use Rattle.sequences.proofs.Theorems.{none_holds_learnable, learn-accepts, learn-holds, learn-adds_up, learn-valid, refused-same}
+use Rattle.promises.specs.Calls.{Call, learn, follow, words_of, sequence_of, learned_words, refusals, says, gives}
 use Rattle.promises.proofs.ValidWalkLaws.{SetsAreMasks}
 
 -- ---- the answer
@@ -44,10 +44,6 @@ call_accepted net call = told-accepted (refusals net call) (new_sets net (sequen
 
 -- ---- the words that a call learns
 
-abbrev learned_words : Call → List ℕ
-learned_words (learn ws) = ws
-learned_words (follow trace) = words (followed trace)
-
 says-learned : (net : Net) (call : Call) → says net call ≡ learn_says net (learned_words call)
 says-learned net (learn ws) = refl
 says-learned net (follow trace) = (follow-is-learn net trace).says
@@ -56,9 +52,18 @@ gives-learned : (net : Net) (call : Call) → gives net call ≡ learn_gives net
 gives-learned net (learn ws) = refl
 gives-learned net (follow trace) = (follow-is-learn net trace).gives
 
-bindings-learned : (call : Call) → bindings (learned_words call) ≡ sequence_of call
+pub bindings-learned : (call : Call) → bindings (learned_words call) ≡ sequence_of call
 bindings-learned (learn ws) = refl
 bindings-learned (follow trace) = bindings-words (followed trace)
+
+-- a call is accepted exactly if the net could learn its words
+pub call_learnable : (net : Net) (call : Call) → ((new : ℕ) × (says net call ≡ accepted new)) ↔ Learnable net (learned_words call)
+call_learnable net call =
+    let ws = learned_words call in
+    let new = new_sets net (bindings ws) in (
+      (λ w. ((learn-accepts net ws w.0).0 (sym (says-learned net call) ∙ w.1)).0),
+      (λ l. (new, says-learned net call ∙ (told-accepted (learn_refusals net ws) new (learn-told net ws)).1 ((none_holds_learnable net ws).1 l))),
+    )
 
 -- ---- an accepted call, and a refused one
 

@@ -1,84 +1,83 @@
 -- The net after a list of calls: it holds exactly what it held and the sets of the sequences accepted, each of which is
 -- well-formed for its start and end, and has counted their uses. One call after the other. Assumes nothing.
 use Prim.Native.Nat.{ℕ, ◌+◌}
-use mathlib.Core.Path.{◌≡◌, refl, sym, ap, subst, ◌∙◌}
+use mathlib.Core.Path.{◌≡◌, refl, ap}
 use mathlib.Core.Bool.{Bool, true, false, cond}
 use mathlib.Core.List.Memᴰ
 use mathlib.Core.List.{List, [], ◌∷◌, Memᴰ}
-use mathlib.Core.Logic.{◌↔◌, ◌⊎◌, inl, inr, ⊎_elim}
+use mathlib.Core.Logic.{◌⊎◌, inl, inr, ⊎_elim}
 use native.Mathlib.Omega.{arith}
 use Rattle.obligations.specs.State.{total}
 use Rattle.obligations.specs.Sequence.{WellFormed}
 use Rattle.obligations.specs.declared.sequence.Binding.{Binding}
 use Rattle.net.specs.Refusals.{Says, accepted, refused}
-use Rattle.net.specs.Sides.{counts_on, count_of, OnSide}
+use Rattle.net.specs.Sides.{counts_on, OnSide}
 use Rattle.net.specs.Orderly.{Orderly}
 use Rattle.net.specs.Valid.{Valid}
 use Rattle.net.specs.declared.Net.{Net}
 use Rattle.net.specs.declared.sides.Side.{Side}
-use Rattle.net.specs.declared.sides.Side.TheVariants.{Input, Output}
-use Rattle.sequences.specs.Gain.{SetOf, occurrences_of, Gains}
+use Rattle.sequences.specs.Gain.{SetOf, uses, occurrences_of, Gains}
 use Rattle.sequences.specs.Learn.{new_sets}
-use Rattle.promises.specs.Calls.{Call, sequence_of, says, gives, grown, AllWords}
-use Rattle.promises.specs.Promise.{uses_in, occurrences_in}
+use Rattle.sequences.proofs.JoinLaws.{NoMore, uses_join, occurrences_nothing, occurrences_join, set_either, gains_nothing, gains_both, formed_as, gained-valid}
+use Rattle.promises.specs.Calls.{Call, sequence_of, together, says, gives, grown, AllWords}
 use Rattle.promises.proofs.ValidWalkLaws.{SetsAreMasks}
 use Rattle.promises.proofs.CallLaws.{call_listed, call_accepted, call_gains, call_adds_up, call_valid, call_stays, call_masks}
 
--- m is a set that some of the sequences has for activity a's side
+-- ---- the sets and uses of several sequences, one after the other
+
+-- m is a set that one of the sequences has for activity a's side
 pub record SetOfSome (side : Side) (ss : List (List Binding)) (a m : ℕ) : Type 0 where
   pub sequence : List Binding
   pub among : Memᴰ sequence ss
   pub set_of : SetOf side sequence a m
 
--- a net with the sets of several sequences more, each of them well-formed for its start and end
+set_of_some : (side : Side) (ss : List (List Binding)) (a m : ℕ) → SetOf side (together ss) a m → SetOfSome side ss a m
+unfolding together
+set_of_some side [] a m f = absurd (omega (arith, f.inside))
+set_of_some side (s ∷ ss) a m f =
+    ⊎_elim (λ w. record { sequence = s; among = Memᴰ.head refl; set_of = w })
+    (λ w. let g = set_of_some side ss a m w in record { sequence = g.sequence; among = Memᴰ.tail g.among; set_of = g.set_of })
+    (set_either side s (together ss) a m f)
+
+-- one of them uses no set more often than all together
+pub no_more : (s : List Binding) (ss : List (List Binding)) → Memᴰ s ss → NoMore s (together ss)
+unfolding together
+no_more s [] i t a m = absurd (Memᴰ.not-nil i)
+no_more s (r ∷ ss) i t a m =
+    ⊎_elim (λ e. omega (arith, uses_join t r (together ss) a m, ap (λ (q : List Binding). uses t q a m) e)) (λ j. omega (arith, uses_join t r (together ss) a m, no_more s ss j t a m))
+    (Memᴰ.cases_cons i)
+
+-- ---- a net that has gained several sequences, each of them well-formed for its start and end
+
 pub record Grown (net after : Net) (ss : List (List Binding)) : Type 0 where
-  pub same_start : after.start ≡ net.start
-  pub same_end : after.end ≡ net.end
-  pub is_orderly : Orderly after
-  pub on_sides : (side : Side) (a m : ℕ) → OnSide after side a m ↔ (OnSide net side a m ⊎ SetOfSome side ss a m)
-  pub counted : (side : Side) (a m : ℕ) → count_of after side a m ≡ count_of net side a m + uses_in side ss a m
-  pub adds_up : (side : Side) (a : ℕ) → total (counts_on after side a) ≡ total (counts_on net side a) + occurrences_in ss a
+  pub gains : Gains net (together ss) after
+  pub adds_up : (side : Side) (a : ℕ) → total (counts_on after side a) ≡ total (counts_on net side a) + occurrences_of (together ss) a
   pub each_formed : (s : List Binding) → Memᴰ s ss → WellFormed net.start net.end s
 
+-- a set of the grown net was on its side before, or one of the sequences has it
+pub grown_set : {net after : Net} {ss : List (List Binding)} → Grown net after ss → (side : Side) (a m : ℕ) → OnSide after side a m → OnSide net side a m ⊎ SetOfSome side ss a m
+grown_set {ss = ss} g side a m i = ⊎_elim inl (λ f. inr (set_of_some side ss a m f)) ((g.gains.on_sides side a m).0 i)
+
 grown_none : (net : Net) → Orderly net → Grown net net []
-unfolding uses_in occurrences_in
+unfolding together
 grown_none net o = record {
-  same_start = refl;
-  same_end = refl;
-  is_orderly = o;
-  on_sides = λ side a m. (inl, (λ w. ⊎_elim (λ i. i) (λ f. absurd (Memᴰ.not-nil f.among)) w));
-  counted = λ side a m. omega arith;
-  adds_up = λ side a. omega arith;
+  gains = gains_nothing net o;
+  adds_up = λ side a. omega (arith, occurrences_nothing a);
   each_formed = λ s m. absurd (Memᴰ.not-nil m);
 }
-
--- well-formed for the start and end of a net that has the same
-formed_as : {s : List Binding} (start end start' end' : ℕ) → start ≡ start' → end ≡ end' → WellFormed start end s → WellFormed start' end' s
-formed_as {s} start end start' end' e f w = subst (λ (a : ℕ). WellFormed a end' s) e (subst (λ (b : ℕ). WellFormed start b s) f w)
 
 -- one sequence more, before the others
 grown_more : (net next after : Net) (s : List Binding) (ss : List (List Binding)) → Valid next s → Gains net s next
     → ((side : Side) (a : ℕ) → total (counts_on next side a) ≡ total (counts_on net side a) + occurrences_of s a) → Grown next after ss → Grown net after (s ∷ ss)
-unfolding uses_in occurrences_in
+unfolding together
 grown_more net next after s ss v g u r = record {
-  same_start = r.same_start ∙ g.same_start;
-  same_end = r.same_end ∙ g.same_end;
-  is_orderly = r.is_orderly;
-  on_sides = λ side a m. (
-    (λ i. ⊎_elim (λ j. ⊎_elim inl (λ f. inr (record { sequence = s; among = Memᴰ.head refl; set_of = f })) ((g.on_sides side a m).0 j)) (λ f. inr (record { sequence = f.sequence; among = Memᴰ.tail f.among; set_of = f.set_of })) ((r.on_sides side a m).0 i)),
-    (λ w. (r.on_sides side a m).1 (⊎_elim (λ i. inl ((g.on_sides side a m).1 (inl i))) (λ f. back side a m f (Memᴰ.cases_cons f.among)) w)),
-  );
-  counted = λ side a m. omega (arith, r.counted side a m, g.counted side a m);
-  adds_up = λ side a. omega (arith, r.adds_up side a, u side a);
+  gains = gains_both net next s (together ss) g after r.gains;
+  adds_up = λ side a. omega (arith, r.adds_up side a, u side a, occurrences_join s (together ss) a);
   each_formed = λ t m. ⊎_elim (λ e. rw e (as_net s v.well_formed)) (λ k. as_net t (r.each_formed t k)) (Memᴰ.cases_cons m);
 }
   where
     as_net : (t : List Binding) → WellFormed next.start next.end t → WellFormed net.start net.end t
     as_net t w = formed_as next.start next.end net.start net.end g.same_start g.same_end w
-
-    back : (side : Side) (a m : ℕ) (f : SetOfSome side (s ∷ ss) a m) → (f.sequence ≡ s) ⊎ Memᴰ f.sequence ss → OnSide next side a m ⊎ SetOfSome side ss a m
-    back side a m f (inl e) = inl ((g.on_sides side a m).1 (inr (subst (λ (t : List Binding). SetOf side t a m) e f.set_of)))
-    back side a m f (inr k) = inr (record { sequence = f.sequence; among = k; set_of = f.set_of })
 
 -- ---- a list of calls
 
@@ -132,8 +131,4 @@ learned-masks net (call ∷ calls) w s m =
 
 -- each of the sequences is valid in the net that has grown by them
 pub grown-valid : (net after : Net) (ss : List (List Binding)) → Grown net after ss → (s : List Binding) → Memᴰ s ss → Valid after s
-grown-valid net after ss g s m = record {
-  well_formed = formed_as net.start net.end after.start after.end (sym g.same_start) (sym g.same_end) (g.each_formed s m);
-  inputs_on_side = λ i l. (g.on_sides Input _ _).1 (inr (record { sequence = s; among = m; set_of = record { position = i; inside = l; activity_is = refl; set_is = refl } }));
-  outputs_on_side = λ i l. (g.on_sides Output _ _).1 (inr (record { sequence = s; among = m; set_of = record { position = i; inside = l; activity_is = refl; set_is = refl } }));
-}
+grown-valid net after ss g s m = gained-valid net after s (together ss) (no_more s ss m) g.gains (g.each_formed s m)

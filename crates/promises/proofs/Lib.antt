@@ -3,6 +3,8 @@ pub mod DueLaws
 pub mod ValidWalkLaws
 pub mod CallLaws
 pub mod GrownLaws
+pub mod TimesLaws
+pub mod OrderLaws
 pub mod PassLaws
 pub mod WithinLaws
 pub mod ReplayLaws

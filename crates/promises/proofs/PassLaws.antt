@@ -24,7 +24,7 @@ use Rattle.walks.specs.Arcs.{Names}
 use Rattle.walks.specs.Walk.{InNet, the_start, the_end, with_a_set, in_a_set, OnWalk, Passes}
 use Rattle.sequences.specs.Gain.{set_for}
 use Rattle.promises.proofs.ValidWalkLaws.{SetsAreMasks, Occurs, occurring_on_walk, named_occurs, named_answers, start_occurs, end_occurs}
-use Rattle.promises.proofs.GrownLaws.{SetOfSome, Grown, grown-valid}
+use Rattle.promises.proofs.GrownLaws.{SetOfSome, Grown, grown_set, grown-valid}
 
 -- k is named on activity a's side by a position of one of the sequences
 record NamedBySome (ss : List (List Binding)) (side : Side) (a k : ℕ) : Type 0 where
@@ -48,7 +48,7 @@ module _ (start end : ℕ) (h : ends_ok start end ≡ true) (after : Net) (ss : 
   at_an_end Output a e s m = of_sequence a s m (rw e (end_occurs after s (small s m) (valid s m)))
 
   with_set_lem : (side : Side) (a m : ℕ) (s : List Binding) → Memᴰ s ss → OnSide (fresh_net start end) side a m ⊎ SetOfSome side ss a m → OnWalk after a
-  with_set_lem side a m s k (inl i) = at_an_end side a (((fresh_on_side start end h side a m).0 i).0 ∙ same_empty (fresh_net start end) after side (sym g.same_start) (sym g.same_end)) s k
+  with_set_lem side a m s k (inl i) = at_an_end side a (((fresh_on_side start end h side a m).0 i).0 ∙ same_empty (fresh_net start end) after side (sym g.gains.same_start) (sym g.gains.same_end)) s k
   with_set_lem side a m s k (inr f) = of_sequence a f.sequence f.among (record { position = f.set_of.position; inside = f.set_of.inside; activity_is = f.set_of.activity_is })
 
   -- ---- names
@@ -65,7 +65,7 @@ module _ (start end : ℕ) (h : ends_ok start end ≡ true) (after : Net) (ss : 
   }
 
   named_by : (side : Side) (a k : ℕ) → Names after side a k → NamedBySome ss side a k
-  named_by side a k n = in_set side a k n.set n.in_set ((g.on_sides side a n.set).0 n.on_side)
+  named_by side a k n = in_set side a k n.set n.in_set (grown_set g side a n.set n.on_side)
 
   name_on_walk : (side : Side) (a k : ℕ) → Names after side a k → OnWalk after k
   name_on_walk side a k n =
@@ -84,12 +84,12 @@ module _ (start end : ℕ) (h : ends_ok start end ≡ true) (after : Net) (ss : 
   on_walk : (s : List Binding) → Memᴰ s ss → (a : ℕ) → InNet after a → OnWalk after a
   on_walk s k a (the_start e) = at_an_end Input a e s k
   on_walk s k a (the_end e) = at_an_end Output a e s k
-  on_walk s k a (with_a_set side m i) = with_set_lem side a m s k ((g.on_sides side a m).0 i)
+  on_walk s k a (with_a_set side m i) = with_set_lem side a m s k (grown_set g side a m i)
   on_walk s k a (in_a_set side b l n) = name_on_walk side b a n
 
   pub grown_net_passes : (s : List Binding) → Memᴰ s ss → Passes after
   grown_net_passes s m = record {
-    is_orderly = g.is_orderly;
+    is_orderly = g.gains.is_orderly;
     on_walks = on_walk s m;
     answered = λ p q hp hq. (name_answered Input q p, name_answered Output p q);
   }

@@ -10,7 +10,7 @@ use Rattle.obligations.specs.declared.sequence.Binding.{Binding}
 use Rattle.net.specs.Refusals.{Says, accepted}
 use Rattle.net.specs.Sentences.{NoneHolds, IsGiven}
 use Rattle.net.specs.Orderly.{ends_ok}
-use Rattle.net.specs.Fresh.{fresh_net}
+use Rattle.net.specs.Fresh.{fresh_net, fresh_gives}
 use Rattle.net.specs.Contained.{contained_says}
 use Rattle.net.specs.Valid.{Valid}
 use Rattle.net.specs.declared.Net.{Net}
@@ -24,10 +24,12 @@ use Rattle.walks.proofs.Theorems.{passes-says}
 use Rattle.sequences.specs.Learn.{new_sets}
 use Rattle.promises.specs.Calls.{Call, sequence_of, refusals, says, gives, grown, answers}
 use Rattle.promises.specs.Promise.{Called, Runs, none_left, accepts, refuses, Promise, Promised}
+use Rattle.promises.specs.Order.{AcceptedExactly, GainsTogether, OrderImmaterial, FreshOrderImmaterial, OnlyCountsDiffer}
 use Rattle.promises.proofs.CallLaws.{call_listed, call_accepted, call_gains, call_grows, call_stays}
 use Rattle.promises.proofs.GrownLaws.{learned, learned-nothing, learned_more, learned_same, Grown, grown_list, learned-masks, grown-valid}
 use Rattle.promises.proofs.PassLaws.{grown_net_passes}
 use Rattle.promises.proofs.WithinLaws.{valid-grows, all_valid_contained}
+use Rattle.promises.proofs.OrderLaws.{accepted_learnable, learnable_accepted, gained_together, same_grown, same_but_counts}
 use Rattle.promises.proofs.ReplayLaws.{found_not_none, none_exactly}
 
 -- ---- one call
@@ -81,7 +83,7 @@ module _ (start end : ℕ) (h : ends_ok start end ≡ true) (calls : List Call) 
       let o = (said_passes other (ap (λ (s : Says). s.ok) p)).is_orderly in
       let c = (contained_said net other).0 in (
         (λ e s m. valid-grows net other s (c.0 e).2 (grown-valid first net ss grew s m)),
-        (λ v. c.1 (grew.is_orderly, o, all_valid_contained start end h net ss grew other o es ee v)),
+        (λ v. c.1 (grew.gains.is_orderly, o, all_valid_contained start end h net ss grew other o es ee v)),
       )
 
   promise : Promise first calls
@@ -94,11 +96,28 @@ module _ (start end : ℕ) (h : ends_ok start end ≡ true) (calls : List Call) 
         each_call = λ before after call e. called (grown first before) call;
         grown_passes = λ w s m. let p = grown_net_passes start end h net ss grew (learned-masks first calls w) s m in (p, passes-says net p);
         contained_exactly = contained_valid;
-        found_never_none = λ other e. found_not_none net other grew.is_orderly ((contained_said net other).0.0 e).2;
+        found_never_none = λ other e. found_not_none net other grew.gains.is_orderly ((contained_said net other).0.0 e).2;
         none_exactly = none_exactly;
-        counted = λ side a m. omega (arith, grew.counted side a m, fresh_unused start end h side a m);
+        counted = λ side a m. omega (arith, grew.gains.counted side a m, fresh_unused start end h side a m);
         counts_add_up = λ side a. omega (arith, grew.adds_up side a, fresh_sum start end h side a);
       }
 
 pub promised : Promised
 promised start end e calls = let f = fresh_made start end e in rw f.1 (promise start end f.0 calls)
+
+-- ---- the order
+
+pub accepted_exactly : AcceptedExactly
+accepted_exactly net calls o = (accepted_learnable net calls o, learnable_accepted net calls)
+
+pub gains_together : GainsTogether
+gains_together = gained_together
+
+pub order_immaterial : OrderImmaterial
+order_immaterial = same_grown
+
+pub fresh_order_immaterial : FreshOrderImmaterial
+fresh_order_immaterial start end calls calls' h k e = (order_immaterial (fresh_gives start end) calls calls' h e).same_net
+
+pub only_counts_differ : OnlyCountsDiffer
+only_counts_differ = same_but_counts

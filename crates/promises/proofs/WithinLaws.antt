@@ -6,7 +6,7 @@ use mathlib.Core.Bool.{true}
 use mathlib.Core.List.{List, Memᴰ}
 use mathlib.Core.Logic.{⊎_elim}
 use Rattle.obligations.specs.Limits.{activities}
-use Rattle.obligations.specs.Sequence.{WellFormed, at}
+use Rattle.obligations.specs.Sequence.{at}
 use Rattle.obligations.specs.declared.sequence.Binding.{Binding}
 use Rattle.net.specs.Sides.{OnSide}
 use Rattle.net.specs.Orderly.{ends_ok, Orderly}
@@ -20,7 +20,8 @@ use Rattle.net.proofs.ListLaws.{one_listed}
 use Rattle.net.proofs.FreshLaws.{fresh_on_side}
 use Rattle.net.proofs.WithinLaws.{same_empty}
 use Rattle.sequences.specs.Gain.{SetOf, set_for}
-use Rattle.promises.proofs.GrownLaws.{Grown}
+use Rattle.sequences.proofs.JoinLaws.{formed_as}
+use Rattle.promises.proofs.GrownLaws.{Grown, grown_set}
 
 -- the sets of a valid sequence are on their sides
 set-on_side : (net : Net) (side : Side) (a m : ℕ) (s : List Binding) → Valid net s → SetOf side s a m → OnSide net side a m
@@ -34,7 +35,7 @@ set-on_side net side a m s v f =
 -- what is valid in a net is valid in each that it is contained in
 pub valid-grows : (net other : Net) (s : List Binding) → Contained net other → Valid net s → Valid other s
 valid-grows net other s c v = record {
-  well_formed = subst (λ (a : ℕ). WellFormed a other.end s) c.same_start (subst (λ (b : ℕ). WellFormed net.start b s) c.same_end v.well_formed);
+  well_formed = formed_as net.start net.end other.start other.end c.same_start c.same_end v.well_formed;
   inputs_on_side = λ i l. c.among Input _ _ (v.well_formed.activities_only i l) (v.inputs_on_side i l);
   outputs_on_side = λ i l. c.among Output _ _ (v.well_formed.activities_only i l) (v.outputs_on_side i l);
 }
@@ -49,7 +50,7 @@ module _ (start end : ℕ) (h : ends_ok start end ≡ true) (after : Net) (ss : 
 
   pub all_valid_contained : ((s : List Binding) → Memᴰ s ss → Valid other s) → Contained after other
   all_valid_contained v = record {
-    same_start = g.same_start ∙ sym es;
-    same_end = g.same_end ∙ sym ee;
-    among = λ side a m l i. ⊎_elim (fresh_in side a m l) (λ f. set-on_side other side a m f.sequence (v f.sequence f.among) f.set_of) ((g.on_sides side a m).0 i);
+    same_start = g.gains.same_start ∙ sym es;
+    same_end = g.gains.same_end ∙ sym ee;
+    among = λ side a m l i. ⊎_elim (fresh_in side a m l) (λ f. set-on_side other side a m f.sequence (v f.sequence f.among) f.set_of) (grown_set g side a m i);
   }

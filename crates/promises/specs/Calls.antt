@@ -1,8 +1,8 @@
 -- Lists of learning calls (01, "Learning and containment"): each is a learn of words or a follow of a trace, and gets the net
 -- that the call before it returned.
 use Rattle.std.specs.Prelude.{ℕ}
-use mathlib.Core.List.{List, [], ◌∷◌, Memᴰ}
-use Rattle.obligations.specs.Sequence.{bindings}
+use mathlib.Core.List.{List, [], ◌∷◌, ◌++◌, Memᴰ}
+use Rattle.obligations.specs.Sequence.{bindings, words}
 use Rattle.obligations.specs.declared.sequence.Binding.{Binding}
 use Rattle.net.specs.Refusals.{Says}
 use Rattle.net.specs.Sentences.{Sentence}
@@ -23,6 +23,17 @@ words_of (follow trace) = trace
 abbrev pub sequence_of : Call → List Binding
 sequence_of (learn ws) = bindings ws
 sequence_of (follow trace) = followed trace
+
+-- the words that a call learns: a learn's are those given, of which one or two at the end may make no position; a follow's are those
+-- of its sequence
+abbrev pub learned_words : Call → List ℕ
+learned_words (learn ws) = ws
+learned_words (follow trace) = words (followed trace)
+
+-- the positions of several sequences, in the order of the sequences
+unfoldable pub together : List (List Binding) → List Binding
+together [] = []
+together (s ∷ ss) = s ++ together ss
 
 -- the refusals that the papers list for a call, given a net
 abbrev pub refusals : Net → Call → List Sentence

@@ -18,7 +18,7 @@ use Rattle.walks.specs.Check.{check_means, check_says}
 use Rattle.sequences.specs.Gain.{uses, occurrences_of, Gains}
 use Rattle.sequences.specs.Learn.{learn_means}
 use Rattle.search.specs.Statements.{NoChoice}
-use Rattle.promises.specs.Calls.{Call, sequence_of, refusals, says, gives, grown, answers, AllWords}
+use Rattle.promises.specs.Calls.{Call, sequence_of, together, refusals, says, gives, grown, answers, AllWords}
 use Rattle.promises.specs.Replays.{SaysFound, SaysNone, ReplayNotRefused, EndsWithin}
 
 -- one call, given the net so far: it is refused exactly as the papers list it, and else accepted, with the growth of the net's own
@@ -39,15 +39,6 @@ pub data Runs : Net → List Call → List Says → List (List Binding) → Net 
   refuses : {net last : Net} {call : Call} {calls : List Call} {number place : ℕ} {said : List Says} {ss : List (List Binding)}
       → IsGiven (refusals net call) number place
       → Runs net calls said ss last → Runs net (call ∷ calls) (refused number place ∷ said) ss last
-
--- how many positions of several sequences use m on activity a's side of a kind, and in how many of them activity a occurs
-unfoldable pub uses_in : Side → List (List Binding) → ℕ → ℕ → ℕ
-uses_in side [] a m = 0
-uses_in side (s ∷ ss) a m = uses side s a m + uses_in side ss a m
-
-unfoldable pub occurrences_in : List (List Binding) → ℕ → ℕ
-occurrences_in [] a = 0
-occurrences_in (s ∷ ss) a = occurrences_of s a + occurrences_in ss a
 
 -- what is promised of a list of calls, the first of which is given the net `first`
 pub record Promise (first : Net) (calls : List Call) : Type 0 where
@@ -72,8 +63,8 @@ pub record Promise (first : Net) (calls : List Call) : Type 0 where
       → SaysNone net trace budget out ↔ (EndsWithin net trace budget × NoChoice net trace)
   -- 6. each set's count is the number of positions of the sequences accepted that use it, and an activity's input counts and its
   -- output counts each add up to its occurrences in them (02, (viii))
-  pub counted : (side : Side) (a m : ℕ) → count_of (grown first calls) side a m ≡ uses_in side learned a m
-  pub counts_add_up : (side : Side) (a : ℕ) → total (counts_on (grown first calls) side a) ≡ occurrences_in learned a
+  pub counted : (side : Side) (a m : ℕ) → count_of (grown first calls) side a m ≡ uses side (together learned) a m
+  pub counts_add_up : (side : Side) (a : ℕ) → total (counts_on (grown first calls) side a) ≡ occurrences_of (together learned) a
 
 -- demand 3: for every start and end that fresh accepts and every list of calls, starting from the net that fresh returns
 abbrev pub Promised : Type 0
