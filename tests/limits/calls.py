@@ -74,10 +74,14 @@ F_COUNTS = (
 )
 
 
-def f_at_the_top(register):
-    """The register becomes F, which register 1 holds, with the highest count for every set."""
+def f_counted(register, uses):
+    """The register becomes F, which register 1 holds, with this count for every set."""
     ok(f"copy {register} 1")
-    set_counts(register, *((word, USES) for word in F_COUNTS))
+    set_counts(register, *((word, uses) for word in F_COUNTS))
+
+
+def f_at_the_top(register):
+    f_counted(register, USES)
 
 
 def peek(register, first, count, record):

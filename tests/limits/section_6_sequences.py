@@ -1,6 +1,7 @@
 """Section 6: judge, learn and follow, position by position."""
 
 import section_6_counts
+import section_6_orders
 import section_6_peaks
 from bindings import FIG_4, mask
 from calls import IN, OUT, put_new, read_f, same, same_sets
@@ -27,6 +28,7 @@ def write():
     followed()
     section_6_peaks.write()
     section_6_counts.write()
+    section_6_orders.write()
 
 
 def valid_in_f():
