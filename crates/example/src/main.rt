@@ -1,4 +1,4 @@
-// Learns a checkout, checks it and replays two sessions on it. The steps are 0 cart, 1 address, 2 payment, 3 order.
+// Learns a checkout in two orders, checks it and replays two sessions on it. The steps are 0 cart, 1 address, 2 payment, 3 order.
 
 #![tactic(auto)]
 
@@ -18,6 +18,10 @@ fn main(rt: HostRuntime) {
     let followed = sequences::follow(learned.net, &session);
     say_answer(&rt, "learned", followed.answer);
     let net = followed.net;
+    // Learned in the other order it is the same net, word for word.
+    let other = sequences::follow(made.net, &session);
+    let other = sequences::learn(other.net, &proposed);
+    say(&rt, "same", u64::from(net == other.net));
     say_answer(&rt, "passed", walks::check(net));
     say_replayed(&rt, net, &[0, 2, 1, 3]);
     say_replayed(&rt, net, &[0, 1, 3]);
