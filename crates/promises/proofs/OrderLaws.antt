@@ -8,18 +8,16 @@ use mathlib.Core.Path.{◌≡◌, refl, sym, subst, ◌∙◌}
 use mathlib.Core.List.{List, [], ◌∷◌, map, Memᴰ}
 use mathlib.Core.List.Memᴰ
 use mathlib.Core.Logic.{◌⊎◌, inl, inr, ⊎_elim}
-use Rattle.obligations.specs.declared.sequence.Binding.{Binding}
 use Rattle.net.specs.Refusals.{accepted}
 use Rattle.net.specs.Sides.{SameButCounts}
 use Rattle.net.specs.Orderly.{Orderly}
 use Rattle.net.specs.Contained.{Contained}
 use Rattle.net.specs.declared.Net.{Net}
-use Rattle.net.specs.declared.sides.Side.{Side}
 use Rattle.net.proofs.OrderlyLaws.{facts_orderly}
 use Rattle.net.proofs.WithinLaws.{contained-same}
-use Rattle.sequences.specs.Gain.{SetOf, Gains, Fits, Countable}
+use Rattle.sequences.specs.Gain.{Gains, Fits, Countable}
 use Rattle.sequences.specs.Statements.{Learnable, SameUses}
-use Rattle.sequences.proofs.JoinLaws.{NoMore, fits_within, countable_within, fits_nothing, countable_nothing, fits_after, fits_both, countable_after, countable_both, gains_nothing, gains_both, formed_as, gains_same}
+use Rattle.sequences.proofs.JoinLaws.{NoMore, fits_within, countable_within, fits_nothing, countable_nothing, fits_after, fits_both, countable_after, countable_both, gains_nothing, gains_both, formed_as, gained_among, gains_same}
 use Rattle.netfile.specs.Statements.{SameText}
 use Rattle.netfile.proofs.Theorems.{write-passes_over}
 use Rattle.promises.specs.Calls.{Call, sequence_of, learned_words, together, says, gives, grown, answers}
@@ -158,12 +156,13 @@ same_grown net calls calls' h e =
 
 -- ---- two lists in which the same sequences occur
 
--- a net that gains no other sets is contained in the other
-gained-contained : (net after after' : Net) (s s' : List Binding) → Gains net s after → Gains net s' after' → ((side : Side) (a m : ℕ) → SetOf side s a m → SetOf side s' a m) → Contained after after'
-gained-contained net after after' s s' g k f = record {
+-- where each sequence of one list occurs in the other, the net grown by the one is contained in the other's
+gained-contained : (net after after' : Net) (calls calls' : List Call) → Gains net (positions_of calls) after → Gains net (positions_of calls') after'
+    → ((ws : List ℕ) → 0 < times ws calls → 0 < times ws calls') → Contained after after'
+gained-contained net after after' calls calls' g k f = record {
   same_start = g.same_start ∙ sym k.same_start;
   same_end = g.same_end ∙ sym k.same_end;
-  among = λ t a m h i. (k.on_sides t a m).1 (⊎_elim inl (λ w. inr (f t a m w)) ((g.on_sides t a m).0 i));
+  among = λ t a m h. gained_among net after after' (positions_of calls) (positions_of calls') g k (sets_among calls calls' f) t a m;
 }
 
 orderly_but_counts : (net : Net) (calls calls' : List Call) → Orderly net → AllAccepted net calls → AllAccepted net calls' → SameSequences calls calls'
@@ -173,12 +172,12 @@ orderly_but_counts net calls calls' o h k e =
     let g' = gained_together net calls' o k in
     let c =
     contained-same (grown net calls) (grown net calls') (facts_orderly _ g.is_orderly) (facts_orderly _ g'.is_orderly)
-    (gained-contained net _ _ (positions_of calls) (positions_of calls') g g' (sets_among calls calls' (λ ws. (e ws).0)))
-    (gained-contained net _ _ (positions_of calls') (positions_of calls) g' g (sets_among calls' calls (λ ws. (e ws).1))) in
+    (gained-contained net _ _ calls calls' g g' (λ ws. (e ws).0))
+    (gained-contained net _ _ calls' calls g' g (λ ws. (e ws).1)) in
     (c, write-passes_over (grown net calls) (grown net calls') g.is_orderly g'.is_orderly c)
 
-pub same_but_counts : OnlyCountsDiffer
-same_but_counts net calls calls' h k e =
+pub differ_in_counts : OnlyCountsDiffer
+differ_in_counts net calls calls' h k e =
     ⊎_elim
     (λ n. subst (λ (cs : List Call). SameButCounts (grown net calls) (grown net cs) × SameText (grown net calls) (grown net cs)) (none_either calls calls' (λ ws. (e ws).1) n) (refl, (λ buf. (refl, refl))))
     (λ o. orderly_but_counts net calls calls' o h k e)

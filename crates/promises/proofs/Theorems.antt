@@ -29,7 +29,7 @@ use Rattle.promises.proofs.CallLaws.{call_listed, call_accepted, call_gains, cal
 use Rattle.promises.proofs.GrownLaws.{learned, learned-nothing, learned_more, learned_same, Grown, grown_list, learned-masks, grown-valid}
 use Rattle.promises.proofs.PassLaws.{grown_net_passes}
 use Rattle.promises.proofs.WithinLaws.{valid-grows, all_valid_contained}
-use Rattle.promises.proofs.OrderLaws.{accepted_learnable, learnable_accepted, gained_together, same_grown, same_but_counts}
+use Rattle.promises.proofs.OrderLaws.{accepted_learnable, learnable_accepted, gained_together, same_grown, differ_in_counts}
 use Rattle.promises.proofs.ReplayLaws.{found_not_none, none_exactly}
 
 -- ---- one call
@@ -120,4 +120,4 @@ pub fresh_order_immaterial : FreshOrderImmaterial
 fresh_order_immaterial start end calls calls' h k e = (order_immaterial (fresh_gives start end) calls calls' h e).same_net
 
 pub only_counts_differ : OnlyCountsDiffer
-only_counts_differ = same_but_counts
+only_counts_differ = differ_in_counts

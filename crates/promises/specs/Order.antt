@@ -40,7 +40,7 @@ pub record LearnableTogether (net : Net) (calls : List Call) : Type 0 where
   pub fitting : Fits net (positions_of calls)
   pub counting : Countable net (positions_of calls)
 
--- exactly then every call is accepted
+-- exactly then every call is accepted, on an orderly net. (A list without a call is accepted on any.)
 abbrev pub AcceptedExactly : Type 0
 AcceptedExactly = (net : Net) (calls : List Call) → Orderly net → AllAccepted net calls ↔ LearnableTogether net calls
 
@@ -63,7 +63,7 @@ OrderImmaterial = (net : Net) (calls calls' : List Call) → AllAccepted net cal
 
 -- "For two lists of learning calls from fresh nets of one start and end, in which every call is accepted and each sequence occurs as
 -- often in one as in the other, the two nets are equal, counts included." (That every call of the second is accepted follows; it stands
--- here as the paper says it.)
+-- here as the paper says it. A refused fresh returns a fresh net too.)
 abbrev pub FreshOrderImmaterial : Type 0
 FreshOrderImmaterial =
     (start end : ℕ) (calls calls' : List Call)

@@ -201,6 +201,11 @@ gained-valid net after s s' u g w = record {
     there : (side : Side) (i : ℕ) → i < length s → OnSide after side (at s i).activity (set_for side (at s i))
     there side i l = (g.on_sides side _ _).1 (inr (set_within s s' u side _ _ (record { position = i; inside = l; activity_is = refl; set_is = refl })))
 
+-- a net that has gained no other sets has no other sets
+pub gained_among : (net after after' : Net) (s s' : List Binding) → Gains net s after → Gains net s' after' → ((t : Side) (a m : ℕ) → SetOf t s a m → SetOf t s' a m)
+    → (t : Side) (a m : ℕ) → OnSide after t a m → OnSide after' t a m
+gained_among net after after' s s' g k f t a m i = (k.on_sides t a m).1 (⊎_elim inl (λ w. inr (f t a m w)) ((g.on_sides t a m).0 i))
+
 -- and the net is determined by how often each set is used
 pub gains_same : GainsDetermined
 gains_same net s s' after after' u g k =
@@ -209,8 +214,8 @@ gains_same net s s' after after' u g k =
       same_start = g.same_start ∙ sym k.same_start;
       same_end = g.same_end ∙ sym k.same_end;
       same_sets = λ t a m. (
-        (λ i. (k.on_sides t a m).1 (⊎_elim inl (λ f. inr (set_within s s' (λ t a m. omega (arith, u t a m)) t a m f)) ((g.on_sides t a m).0 i))),
-        (λ i. (g.on_sides t a m).1 (⊎_elim inl (λ f. inr (set_within s' s (λ t a m. omega (arith, u t a m)) t a m f)) ((k.on_sides t a m).0 i))),
+        gained_among net after after' s s' g k (set_within s s' (λ t a m. omega (arith, u t a m))) t a m,
+        gained_among net after' after s' s k g (set_within s' s (λ t a m. omega (arith, u t a m))) t a m,
       );
       same_counts = λ t a m. g.counted t a m ∙ ap (◌+◌ (count_of net t a m)) (u t a m) ∙ sym (k.counted t a m);
     })
