@@ -1,7 +1,7 @@
 -- The papers' refusals by their numbers (01, "Refused, lowest number first"; 02), and what an answer says.
 use Rattle.std.specs.Prelude.{ℕ, Bool, true, false, Result, Ok, Err}
 use Rattle.net.specs.declared.refusal.Refusal.{Refusal}
-use Rattle.net.specs.declared.refusal.Refusal.TheVariants.{BadEnds, Disorderly, OutsideLimits, NoActivity, MisplacedSet, OnNoWalk, WrongEnds, MissingSet, WronglyEmpty, NotPossible, LeftOver, FullSide, LineForm, NumberForm, TextTooLong, NameUnanswered, CountTooHigh}
+use Rattle.net.specs.declared.refusal.Refusal.TheVariants.{BadEnds, Disorderly, OutsideLimits, NoActivity, MisplacedSet, OnNoWalk, WrongEnds, MissingSet, WronglyEmpty, NotPossible, LeftOver, FullSide, LineForm, NumberForm, TextTooLong, NameUnanswered, NoRows, CountTooHigh}
 use Rattle.net.specs.declared.refusal.Refused.{Refused}
 
 abbrev pub bad_ends : ℕ
@@ -52,6 +52,9 @@ text_too_long = 15
 abbrev pub name_unanswered : ℕ
 name_unanswered = 19
 
+abbrev pub no_rows : ℕ
+no_rows = 20
+
 abbrev pub count_too_high : ℕ
 count_too_high = 21
 
@@ -87,6 +90,7 @@ refusal_number LineForm = line_form
 refusal_number NumberForm = number_form
 refusal_number TextTooLong = text_too_long
 refusal_number NameUnanswered = name_unanswered
+refusal_number NoRows = no_rows
 refusal_number CountTooHigh = count_too_high
 
 -- a refusal with its place

@@ -21,6 +21,7 @@ pub enum Refusal {
     NumberForm = 14,
     TextTooLong = 15,
     NameUnanswered = 19,
+    NoRows = 20,
     CountTooHigh = 21,
 }
 

@@ -16,7 +16,7 @@ replayed-uncounted : (net : Net) (trace : List ℕ) → replayed (uncounted net)
 unfolding replayed search_of
 replayed-uncounted net trace = refl
 
-checked_says-uncounted : (net : Net) (trace : List ℕ) (budget : ℕ) → checked_says (uncounted net) trace budget ≡ checked_says net trace budget
+pub checked_says-uncounted : (net : Net) (trace : List ℕ) (budget : ℕ) → checked_says (uncounted net) trace budget ≡ checked_says net trace budget
 unfolding checked_says
 checked_says-uncounted net trace budget = rw (replayed-uncounted net trace)
 
