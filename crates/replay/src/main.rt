@@ -2,8 +2,10 @@
 
 #![tactic(auto)]
 
+use file_report::{ReportKind, print_report};
+
 fn main(rt: HostRuntime) {
-    if file_report::print_report(&rt, b"net.csv", b"log.csv") {
+    if print_report(&rt, ReportKind::Replays, b"net.csv", b"log.csv") {
         files::close_output(&rt);
     }
 }

@@ -1,27 +1,34 @@
--- Laws of the report's text: its lines in the pieces in which they are written, what is left of the rows after each, and
--- its length: a row's line has at most 28 bytes, and so has the header. Assumes nothing.
-use Prim.Native.Nat.{ℕ, zero, suc, ◌+◌, ◌-◌, ◌*◌, ◌≤◌, ◌<◌}
-use mathlib.Core.Path.{◌≡◌, refl, sym, ◌∙◌}
+-- Laws of the reports' texts: their lines as the pieces of which they are put together, and their length: a row's line has at most 28
+-- bytes, and so has the header; the lines of a share have at most 300. Assumes nothing.
+use Prim.Native.Nat.{ℕ, suc, ◌+◌, ◌*◌, ◌≤◌}
+use mathlib.Core.Path.{◌≡◌, refl, sym, ap, ◌∙◌}
 use mathlib.Core.List.{List, [], ◌∷◌, ◌++◌, append_assoc, append-nil}
 use native.Mathlib.Omega.{arith}
 use lib.ListN.{length, length-append}
-use Rattle.obligations.specs.Limits.{positions}
-use Rattle.text.specs.Lines.{cr, lf}
+use Rattle.std.specs.Prelude.{All}
+use Rattle.std.proofs.lemmas.List.Elements.{All-head, All-tail}
+use Rattle.text.specs.Lines.{cr, lf, unlines}
 use Rattle.text.specs.Fields.{comma}
 use Rattle.text.specs.Decimal.{print_number}
+use Rattle.text.proofs.DigitLaws.{number_below, number-within}
 use Rattle.net.specs.declared.Net.{Net}
 use Rattle.logfile.specs.Limits.{log_rows, most_sessions}
-use Rattle.logfile.specs.LogFile.{RowReading, row, end, fault, read_row}
-use Rattle.logfile.proofs.Theorems.{row-is_trace, later_same}
 use Rattle.search.proofs.ReplayLaws.{said_within}
-use Rattle.search.specs.Replay.{ReplaySays, says_found, says_none, says_spent, says_refused, checked_says}
-use Rattle.text.proofs.DigitLaws.{number_below, number-within}
-use Rattle.report.specs.Report.{row_budget, refused_word, answer_word, answer_trials, refusal_text, report_line, reading_text, rows_text}
+use Rattle.search.specs.Replay.{ReplaySays, says_found, says_none, says_spent, says_refused, outcome_means, checked_says}
+use Rattle.wholelog.specs.Rows.{LoggedRow, logged}
+use Rattle.wholelog.specs.Left.{rows_left, last_trace, ReplayedFirst}
+use Rattle.wholelog.specs.declared.rows.Replayed.{Replayed}
+use Rattle.wholelog.specs.declared.rows.Rows.{Rows}
+use Rattle.wholelog.specs.declared.sharing.Figures.{Figures}
+use Rattle.wholelog.proofs.RowsLaws.{RowWithin}
+use Rattle.report.specs.RowLines.{report_header, answer_word, answer_trials, report_line, rows_text, table_text}
+use Rattle.report.specs.ShareLines.{of_all, sessions_fit, thousand_words, and_then, are_spent, share_word, figures_text}
+use Rattle.report.specs.Report.{row_budget, refused_word, refusal_text}
 
 -- ---- the line of a refusal
 
 module _ (file : List ℕ) (n line : ℕ) where
-  pub refusal_bytes : refusal_text file n line ≡ (refused_word ++ (comma ∷ [])) ++ (file ++ ((comma ∷ []) ++ (print_number n ++ ((comma ∷ []) ++ (print_number line ++ (cr ∷ lf ∷ []))))))
+  pub refusal_bytes : refusal_text file n line ≡ (refused_word ++ (comma ∷ [])) ++ (file ++ ((comma ∷ []) ++ (print_number n ++ ((comma ∷ []) ++ (print_number line ++ ((cr ∷ lf ∷ []) ++ []))))))
   unfolding refusal_text
   refusal_bytes = simp (append_assoc, append-nil)
 
@@ -31,7 +38,7 @@ module _ (file : List ℕ) (n line : ℕ) where
 -- ---- the line of a row
 
 module _ (r s : ℕ) (a : ReplaySays) where
-  pub row_bytes : report_line r s a ≡ print_number r ++ ((comma ∷ []) ++ (print_number s ++ ((comma ∷ (answer_word a ++ (comma ∷ []))) ++ (print_number (answer_trials a) ++ (cr ∷ lf ∷ [])))))
+  pub row_bytes : report_line r s a ≡ print_number r ++ ((comma ∷ []) ++ (print_number s ++ ((comma ∷ []) ++ (answer_word a ++ ((comma ∷ []) ++ (print_number (answer_trials a) ++ ((cr ∷ lf ∷ []) ++ [])))))))
   unfolding report_line
   row_bytes = simp (append_assoc, append-nil)
 
@@ -51,44 +58,66 @@ module _ (r s : ℕ) (a : ReplaySays) where
   row_short h k l = omega (arith, row_width, word_short, number_below 3 r (omega arith), number_below 6 s (omega arith), number_below 6 (answer_trials a) (omega arith))
 
 -- a replay says no more trials than its budget
-trials_most : (net : Net) (t : List ℕ) (budget : ℕ) → answer_trials (checked_says net t budget) ≤ budget
+pub trials_most : (net : Net) (t : List ℕ) (budget : ℕ) → answer_trials (checked_says net t budget) ≤ budget
 trials_most net t budget = said_within net t budget (λ a. answer_trials a ≤ budget) (λ n h. h) (λ n h. h) (λ n h. h)
 
 -- ---- the rows
 
-module _ (net : Net) (log : List ℕ) where
-  pub rows_step : (r : ℕ) → r ≤ log_rows → rows_text net log (log_rows + 1 - r) r ≡ reading_text net r (read_row log r positions) ++ rows_text net log (log_rows + 1 - (r + 1)) (r + 1)
+module _ (answer : List ℕ → ReplaySays) where
+  pub rows-first : (r : ℕ) (w : LoggedRow) (ws : List LoggedRow) → rows_text answer r (w ∷ ws) ≡ report_line r w.sessions (answer w.trace) ++ rows_text answer (suc r) ws
   unfolding rows_text
-  rows_step r h = let e : log_rows + 1 - r ≡ suc (log_rows + 1 - (r + 1)) = omega arith in rw e refl
+  rows-first r w ws = refl
 
-  pub rows_done : (r : ℕ) → log_rows < r → rows_text net log (log_rows + 1 - r) r ≡ []
+  pub rows-none : (r : ℕ) → rows_text answer r [] ≡ []
   unfolding rows_text
-  rows_done r h = let e : log_rows + 1 - r ≡ 0 = omega arith in rw e refl
+  rows-none r = refl
 
-  reading_none : (r : ℕ) (x : RowReading) → ((s : ℕ) (t : List ℕ) → x ≡ row s t → ⊥) → reading_text net r x ≡ []
-  reading_none r (row s t) h = absurd (h s t refl)
-  reading_none r end h = refl
-  reading_none r (fault n p) h = refl
+  pub rows_short : ((t : List ℕ) → answer_trials (answer t) ≤ row_budget) → (r : ℕ) (ws : List LoggedRow) → All RowWithin ws → r + length ws ≤ log_rows + 1 → length (rows_text answer r ws) ≤ 28 * length ws
+  rows_short most r [] h few = omega (arith, ap length (rows-none r))
+  rows_short most r (w ∷ ws) h few =
+      omega (
+        arith,
+        ap length (rows-first r w ws),
+        length-append (report_line r w.sessions (answer w.trace)) (rows_text answer (suc r) ws),
+        row_short r w.sessions (answer w.trace) (omega arith) (All-head RowWithin w ws h).few_sessions (most w.trace),
+        rows_short most (suc r) ws (All-tail RowWithin w ws h) (omega arith),
+      )
 
-  -- past a row that isn't given there is none
-  pub rows_none : (n r : ℕ) → 1 ≤ r → ((s : ℕ) (t : List ℕ) → read_row log r positions ≡ row s t → ⊥) → rows_text net log n r ≡ []
-  unfolding rows_text
-  rows_none zero r l h = refl
-  rows_none (suc n) r l h =
-      let q = later_same log r (r + 1) positions l (omega arith) h in
-      rw (reading_none r (read_row log r positions) h) (rows_none n (r + 1) (omega arith) (λ s t e. h s t (sym q ∙ e)))
+-- a row that was given and replayed: its line is the next
+pub given_line : (answer : List ℕ → ReplaySays) (old new : Rows) (x : Replayed) → ReplayedFirst answer old new x
+    → rows_text answer (old.given + 1) (rows_left old) ≡ report_line x.row x.sessions (outcome_means x.outcome) ++ rows_text answer (new.given + 1) (rows_left new)
+given_line answer old new x g =
+    let k : old.given + 1 ≡ x.row = sym g.numbered in
+    let l : suc x.row ≡ new.given + 1 = omega (arith, g.numbered, g.counted) in
+    ap (λ (n : ℕ). rows_text answer n (rows_left old)) k
+    ∙ ap (rows_text answer x.row) g.first
+    ∙ rows-first answer x.row (logged x.sessions (last_trace new)) (rows_left new)
+    ∙ ap (λ (a : ReplaySays). report_line x.row x.sessions a ++ rows_text answer (suc x.row) (rows_left new)) (sym g.says)
+    ∙ ap (λ (n : ℕ). report_line x.row x.sessions (outcome_means x.outcome) ++ rows_text answer n (rows_left new)) l
 
-  reading_short : (r : ℕ) → length (reading_text net r (read_row log r positions)) ≤ 28
-  reading_short r = go (read_row log r positions) refl
-    where
-      go : (x : RowReading) → read_row log r positions ≡ x → length (reading_text net r x) ≤ 28
-      go (row s t) e = let g = row-is_trace log r positions s t e in row_short r s (checked_says net t row_budget) g.few_rows g.few_sessions (trials_most net t row_budget)
-      go end e = omega arith
-      go (fault n p) e = omega arith
+-- the header and the rows have at most so many bytes
+pub table_short : (answer : List ℕ → ReplaySays) → ((t : List ℕ) → answer_trials (answer t) ≤ row_budget) → (ws : List LoggedRow) → All RowWithin ws → length ws ≤ log_rows → length (table_text answer ws) ≤ 28 + 28 * log_rows
+unfolding table_text
+table_short answer most ws h few =
+    omega (arith, length-append (unlines (report_header ∷ [])) (rows_text answer 1 ws), rows_short answer most 1 ws h (omega arith), few)
 
-  pub rows_short : (n r : ℕ) → length (rows_text net log n r) ≤ 28 * n
-  unfolding rows_text
-  rows_short zero r = omega arith
-  rows_short (suc n) r =
-      rw (length-append (reading_text net r (read_row log r positions)) (rows_text net log n (r + 1)))
-      (omega (arith, reading_short r, rows_short n (r + 1)))
+-- two answers that are the same of every row's trace make the same lines
+pub rows-same : (f g : List ℕ → ReplaySays) (r : ℕ) (ws : List LoggedRow) → All (λ w. f w.trace ≡ g w.trace) ws → rows_text f r ws ≡ rows_text g r ws
+rows-same f g r [] h = rows-none f r ∙ sym (rows-none g r)
+rows-same f g r (w ∷ ws) h =
+    rows-first f r w ws
+    ∙ ap (λ (a : ReplaySays). report_line r w.sessions a ++ rows_text f (suc r) ws) (All-head (λ (v : LoggedRow). f v.trace ≡ g v.trace) w ws h)
+    ∙ ap (λ (rest : List ℕ). report_line r w.sessions (g w.trace) ++ rest) (rows-same f g (suc r) ws (All-tail (λ (v : LoggedRow). f v.trace ≡ g v.trace) w ws h))
+    ∙ sym (rows-first g r w ws)
+
+-- ---- the lines of a share
+
+module _ (s : Figures) where
+  pub share_bytes : figures_text s ≡ print_number s.fitting ++ (of_all ++ (print_number s.all ++ (sessions_fit ++ (print_number s.per_thousand ++ (thousand_words ++ (print_number s.remainder ++ (and_then ++ (print_number s.spent ++ ((are_spent ++ (cr ∷ lf ∷ (share_word ++ (comma ∷ [])))) ++ (print_number s.per_thousand ++ ((comma ∷ []) ++ (print_number s.remainder ++ ((comma ∷ []) ++ (print_number s.fitting ++ ((comma ∷ []) ++ (print_number s.spent ++ ((comma ∷ []) ++ (print_number s.all ++ ((cr ∷ lf ∷ []) ++ [])))))))))))))))))))
+  unfolding figures_text
+  share_bytes = simp (append_assoc, append-nil)
+
+  pub share_short : length (figures_text s) ≤ 300
+  share_short =
+      rw share_bytes
+      (simp length-append (omega (arith, number-within s.per_thousand, number-within s.remainder, number-within s.fitting, number-within s.spent, number-within s.all)))
