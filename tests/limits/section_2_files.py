@@ -4,7 +4,7 @@ from bindings import words
 from calls import IN, OUT, put_new, read_f, row, same
 from files import F_FILE, log_file, net_file
 from limits import (
-    ACTIVITIES, ALL, BUFFER_BYTES, BUFFER_WORDS, DIGITS, LAST, LOG_BYTES, MAX_32, NET_BYTES,
+    ACTIVITIES, ALL, BUFFER_BYTES, BUFFER_WORDS, DIGITS, LAST, LOG_BYTES, MAX_32, MAX_64, NET_BYTES,
     NO_ACTIVITY, POSITIONS,
 )
 from record import out_place
@@ -68,6 +68,7 @@ def bytes_of_a_log_file():
     row(2, "refused 14 3")
     row(3, "refused 14 3")
     row(0, "refused 3 0")
+    refused(14, 3, "share 1 0")
 
     note("3: one byte more, and the file exceeds its bytes; row 1 isn't given any more, and the "
          "second comma on line 3, which would be 13, comes after. A longer buffer stays as it was.")
@@ -75,6 +76,10 @@ def bytes_of_a_log_file():
     for number in 1, 2, 3, 0:
         row(number, "refused 3 0")
     refused(3, 0, f"readrow 1 {POSITIONS - 1}", f"readrow 1 {BUFFER_WORDS}")
+    refused(3, 0, "share 1 0", f"share 1 {MAX_64}")
+
+    note("6 before 3 in a share: the net's refusals come first.")
+    refused(6, 0, "share 3 0")
 
     note(f"3: as a net file such a text exceeds {NET_BYTES:,} bytes, and this comes before its "
          "header, which differs.")

@@ -2,6 +2,7 @@
 
 import section_8_log_files
 import section_8_net_files
+import section_8_shares
 import section_8_written_nets
 from calls import read_f, refused_row, same
 from files import F_FILE, log_file
@@ -15,6 +16,7 @@ def write():
     section_8_net_files.write()
     section_8_written_nets.write()
     section_8_log_files.write()
+    section_8_shares.write()
 
     note("A log is no net and a net no log.")
     text(log_file("1,1"))

@@ -64,6 +64,7 @@ def how_many_numbers():
                "contained", "contained 0",
                "check", "judge", "peak", "learn", "follow",
                "replay", "replay 0", "replay 0 100",
+               "share", "share 0",
                "readnet",
                "writenet", "writenet 0",
                "readrow", "readrow 1",
@@ -72,7 +73,8 @@ def how_many_numbers():
     note("There is a number too many.")
     no_command("fresh 0 0 1 2", "put 0 0 1 2 3", "poke 0 5 5 5", "peek 0 0 1 1", "copy 0 3 3",
                "same 0 1 1", "contained 0 1 1", "check 0 0", "readnet 0 0", "writenet 0 200 200",
-               "show 0", "show 1 2", f"readrow 1 {POSITIONS} {POSITIONS}", "text 1 1")
+               "share 0 100 1", "show 0", "show 1 2", f"readrow 1 {POSITIONS} {POSITIONS}",
+               "text 1 1")
 
 
 def longest_lines():
@@ -100,7 +102,8 @@ def registers_and_sides():
                f"contained {none} 0", f"contained 0 {none}", f"check {none}",
                f"judge {none} 0 0 2 1 1 8 3 2 0", f"peak {none} 0 0 2 1 1 8 3 2 0",
                f"learn {none} 0 0 2 1 1 8 3 2 0", f"follow {none} 0 1 3",
-               f"replay {none} 100 9 0 1 3", f"readnet {none}", f"writenet {none} 200",
+               f"replay {none} 100 9 0 1 3", f"share {none} 100",
+               f"readnet {none}", f"writenet {none} 200",
                f"check {2**32}", f"copy 0 {2**32 + 3}", f"check {MAX_64}")
 
     note("The sides are 0 and 1.")
@@ -125,6 +128,7 @@ def words_of_a_record():
 def highest_numbers():
     note("Numbers are below 2^64.")
     no_command(f"check {2**64}", f"replay 0 {2**64} 9 0 1 3",
+               f"share 0 {2**64}", f"share {2**64} 0",
                f"readrow {2**64} {POSITIONS}", f"readrow {2**64 + 1} {POSITIONS}",
                f"poke 0 {2**64} 1", f"poke 0 0 {2**64}",
                f"fresh {2**64} 0 3", f"fresh 0 {2**64} 3",

@@ -18,6 +18,8 @@ pub enum Answer<'a> {
     Spent { trials: u64 },
     Row { sessions: u32, trace: &'a [u32] },
     End,
+    // Of a share how many sessions in a thousand, the remainder, and the sessions that are spent.
+    Share(u64, u64, u64),
     Refused(Refused),
 }
 
@@ -73,6 +75,7 @@ impl fmt::Display for Answer<'_> {
                 write_words(f, trace)
             }
             Answer::End => write!(f, "end"),
+            Answer::Share(q, r, spent) => write!(f, "ok {q} {r} {spent}"),
             Answer::Refused(refused) => write!(f, "{refused}"),
         }
     }

@@ -7,6 +7,7 @@
 #![tactic(auto)]
 
 mod line;
+mod log_calls;
 mod net_calls;
 mod script;
 mod sequence_calls;

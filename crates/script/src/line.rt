@@ -4,7 +4,7 @@ ghost use Rattle.std.specs.Prelude.{◌≤◌, length};
 
 use crate::script::Script;
 use crate::state::{State, Text};
-use crate::{net_calls, sequence_calls, table_calls};
+use crate::{log_calls, net_calls, sequence_calls, table_calls};
 use machine::answer::{Answer, Reply};
 use machine::numbers::{NUMBERS, read_numbers, words_from};
 use machine::registers::{Register, Registers};
@@ -47,6 +47,7 @@ fn run_command<'m>(
         b"readrow" => table_calls::readrow(text, numbers, words),
         b"writenet" => table_calls::writenet(registers, numbers, text, bytes),
         b"replay" => sequence_calls::replay(registers, numbers, words),
+        b"share" => Some(log_calls::share(registers, numbers, text)?.into()),
         _ => Some(run_on_register(registers, text, words, word, numbers)?.into()),
     }
 }
