@@ -1,4 +1,5 @@
-// Learns a checkout in two orders, checks it and replays two sessions on it. The steps are 0 cart, 1 address, 2 payment, 3 order.
+// Learns a checkout in two orders, checks it, and replays two sessions and a log on it. The steps are 0 cart, 1 address, 2 payment,
+// 3 order.
 
 #![tactic(auto)]
 
@@ -25,6 +26,8 @@ fn main(rt: HostRuntime) {
     say_answer(&rt, "passed", walks::check(net));
     say_replayed(&rt, net, &[0, 2, 1, 3]);
     say_replayed(&rt, net, &[0, 1, 3]);
+    // Two sessions went the first way, and one the second.
+    say_share(&rt, net, b"sessions,trace\r\n2,0 2 1 3\r\n1,0 1 3\r\n");
 }
 
 // Prints a call's number behind a word, or its refusal.
@@ -44,6 +47,14 @@ fn say_replayed<R: Print>(rt: &R, net: Net, trace: &[u32]) {
         Ok(Outcome::Failed { trials }) => say(rt, "none", trials),
         Ok(Outcome::Spent { trials }) => say(rt, "spent", trials),
         Err(refused) => say_refused(rt, refused),
+    }
+}
+
+// Prints how many sessions in a thousand fit, of a log whose rows are each replayed with a budget of 1,000,000 trials.
+fn say_share<R: Print>(rt: &R, net: Net, log: &[u8]) {
+    match wholelog::share(net, log, 1000000) {
+        Ok(figures) => say(rt, "fitting", figures.per_thousand),
+        Err(of) => say_refused(rt, of.refused()),
     }
 }
 
