@@ -16,7 +16,7 @@ use Rattle.logfile.specs.Limits.{log_rows, most_sessions}
 use Rattle.search.proofs.ReplayLaws.{said_within}
 use Rattle.search.specs.Replay.{ReplaySays, says_found, says_none, says_spent, says_refused, outcome_means, checked_says}
 use Rattle.wholelog.specs.Rows.{LoggedRow, logged}
-use Rattle.wholelog.specs.Left.{rows_left, last_trace, ReplayedFirst}
+use Rattle.wholelog.specs.Left.{rows_left, rows_given, last_trace, ReplayedFirst}
 use Rattle.wholelog.specs.declared.rows.Replayed.{Replayed}
 use Rattle.wholelog.specs.declared.rows.Rows.{Rows}
 use Rattle.wholelog.specs.declared.sharing.Figures.{Figures}
@@ -85,10 +85,10 @@ module _ (answer : List ℕ → ReplaySays) where
 
 -- a row that was given and replayed: its line is the next
 pub given_line : (answer : List ℕ → ReplaySays) (old new : Rows) (x : Replayed) → ReplayedFirst answer old new x
-    → rows_text answer (old.given + 1) (rows_left old) ≡ report_line x.row x.sessions (outcome_means x.outcome) ++ rows_text answer (new.given + 1) (rows_left new)
+    → rows_text answer (rows_given old + 1) (rows_left old) ≡ report_line x.row x.sessions (outcome_means x.outcome) ++ rows_text answer (rows_given new + 1) (rows_left new)
 given_line answer old new x g =
-    let k : old.given + 1 ≡ x.row = sym g.numbered in
-    let l : suc x.row ≡ new.given + 1 = omega (arith, g.numbered, g.counted) in
+    let k : rows_given old + 1 ≡ x.row = sym g.numbered in
+    let l : suc x.row ≡ rows_given new + 1 = omega (arith, g.numbered, g.counted) in
     ap (λ (n : ℕ). rows_text answer n (rows_left old)) k
     ∙ ap (rows_text answer x.row) g.first
     ∙ rows-first answer x.row (logged x.sessions (last_trace new)) (rows_left new)

@@ -1,5 +1,5 @@
--- Laws of answers that are refused as one list says and then as another (specs/Refusals.antt): an answer that carries what was said,
--- and one that goes on where nothing was refused. Assumes nothing.
+-- Laws of answers that are refused as one list says, and where none of its sentences holds as another does (specs/Refusals.antt).
+-- Assumes nothing.
 use Prim.Native.Nat.{ℕ}
 use mathlib.Core.Path.{◌≡◌, refl, ap, ◌∙◌}
 use mathlib.Core.Bool.{Bool, true, false, cond}
@@ -8,7 +8,7 @@ use Rattle.obligations.proofs.BoolLaws.{false-not-true}
 use Rattle.net.specs.Refusals.{Says, refused}
 use Rattle.net.specs.Sentences.{Answered}
 
--- what is refused is what is said to be
+-- what isn't accepted is a refusal, and nothing beside its number and place
 abbrev pub Plain : Says → Type 0
 Plain c = c.ok ≡ false → c ≡ refused c.refusal c.place
 

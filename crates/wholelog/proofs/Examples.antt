@@ -1,4 +1,5 @@
--- The definitions computed on the net F of paper 01 and a log of two rows. Assumes nothing.
+-- The definitions computed on the net F of paper 01 and short logs: of two rows, without rows, with a fault, without a header.
+-- Assumes nothing.
 use Prim.Native.Nat.{ℕ}
 use mathlib.Core.Path.{◌≡◌, refl}
 use mathlib.Core.List.{List, [], ◌∷◌}

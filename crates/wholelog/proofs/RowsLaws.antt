@@ -28,7 +28,7 @@ pub record RowWithin (w : LoggedRow) : Type 0 where
   pub few_sessions : w.sessions ≤ most_sessions
   pub with_room : TraceWithRoom w.trace (3 * positions)
 
-pub row-within : (log : List ℕ) (r s : ℕ) (t : List ℕ) → read_row log r positions ≡ row s t → RowWithin (logged s t)
+row-within : (log : List ℕ) (r s : ℕ) (t : List ℕ) → read_row log r positions ≡ row s t → RowWithin (logged s t)
 row-within log r s t e =
     let g = row-is_trace log r positions s t e in
     record {

@@ -19,14 +19,14 @@ use Rattle.wholelog.specs.Sums.{sums_of}
 use Rattle.wholelog.specs.Statements.{ThousandOnce}
 use Rattle.wholelog.specs.declared.sharing.Figures.{Figures}
 use Rattle.wholelog.specs.declared.sharing.Sums.{Sums}
-use Rattle.wholelog.proofs.SumLaws.{sums-same, sessions_some}
+use Rattle.wholelog.proofs.SumLaws.{sums-same, sessions_some, rows_some}
 use Rattle.wholelog.proofs.RowsLaws.{RowWithin, found_within}
 
 -- a number in a thousand and a remainder are determined
 pub thousand_once : ThousandOnce
 thousand_once fitting all q r p o a b = same_from_place q r p o all a.below_all b.below_all (sym a.shared_out ∙ b.shared_out)
 
-pub divided : (fitting all : ℕ) → 0 < all → InAThousand fitting all (1000 * fitting / all) (1000 * fitting % all)
+divided : (fitting all : ℕ) → 0 < all → InAThousand fitting all (1000 * fitting / all) (1000 * fitting % all)
 divided fitting all h = record { shared_out = sym (div-add-mod' (1000 * fitting) all); below_all = mod-lt (1000 * fitting) h }
 
 module _ (answer : List ℕ → ReplaySays) (ws : List LoggedRow) where
@@ -45,7 +45,7 @@ module _ (answer : List ℕ → ReplaySays) (ws : List LoggedRow) where
       λ j. record { per_thousand = u.0 j; remainder = u.1 j; fitting = f j; spent = p j; all = l j }
 
   -- shared out of the sums
-  pub shared_out-sums : share_out (sums_of answer ws).fitting (sums_of answer ws).spent (sums_of answer ws).all ≡ figures_of answer ws
+  shared_out-sums : share_out (sums_of answer ws).fitting (sums_of answer ws).spent (sums_of answer ws).all ≡ figures_of answer ws
   unfolding figures_of sums_of
   shared_out-sums = refl
 
@@ -78,16 +78,11 @@ module _ (net : Net) (log : List ℕ) (budget : ℕ) where
       where
         go : (ws : List LoggedRow) → All RowWithin ws → sessions_of ws ≡ 0 → log_refused no_rows 0 ≡ cond (has_any ws) (says_figures (figures_of checked (rows_of log))) (log_refused no_rows 0)
         go [] h q = refl
-        go (w ∷ ws) h q = absurd (omega (arith, q, sessions_some (w ∷ ws) h (omega arith)))
+        go (w ∷ ws) h q = absurd (omega (arith, q, sessions_some (w ∷ ws) h refl))
 
     pub share-figures : (s : Sums) → s ≡ sums_of checked (rows_of log) → (s.all ≡ 0 → ⊥) → says_figures (share_out s.fitting s.spent s.all) ≡ checked_share net log budget
     unfolding checked_share sums_of
     share-figures s q f =
-        rw (← e)
-        (ap (λ (x : Sums). says_figures (share_out x.fitting x.spent x.all)) q
-        ∙ ap says_figures (shared_out-sums checked (rows_of log))
-        ∙ go (rows_of log) (λ z. f (ap (λ (x : Sums). x.all) q ∙ z)))
-      where
-        go : (ws : List LoggedRow) → (sessions_of ws ≡ 0 → ⊥) → says_figures (figures_of checked (rows_of log)) ≡ cond (has_any ws) (says_figures (figures_of checked (rows_of log))) (log_refused no_rows 0)
-        go [] g = absurd (g refl)
-        go (w ∷ ws) g = refl
+        let some : 0 < s.all = ⊎_elim (λ l. l) (λ l. absurd (f (omega arith))) (lt_or_le 0 s.all) in
+        rw (← e, rows_some (rows_of log) (rw (ap (λ (x : Sums). x.all) q) at some))
+        (ap (λ (x : Sums). says_figures (share_out x.fitting x.spent x.all)) q ∙ ap says_figures (shared_out-sums checked (rows_of log)))

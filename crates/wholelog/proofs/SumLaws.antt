@@ -9,6 +9,7 @@ use lib.ListN.{length}
 use Rattle.std.specs.Prelude.{All, filter}
 use Rattle.std.proofs.lemmas.List.Elements.{All-head, All-tail}
 use Rattle.std.proofs.lemmas.List.Sums.{sum_by-cons, sum_by-le}
+use Rattle.obligations.proofs.BoolLaws.{false-not-true}
 use Rattle.logfile.specs.Limits.{log_rows, most_sessions}
 use Rattle.search.specs.Replay.{ReplaySays, says_found, says_none, says_spent, says_refused, outcome_means}
 use Rattle.search.specs.declared.Outcome.{Outcome}
@@ -18,6 +19,7 @@ use Rattle.wholelog.specs.Left.{rows_left, last_trace, ReplayedFirst}
 use Rattle.wholelog.specs.declared.rows.Rows.{Rows}
 use Rattle.wholelog.specs.declared.rows.Replayed.{Replayed}
 use Rattle.wholelog.specs.Share.{is_found, is_spent, sessions_of, fitting_of, spent_of, log_sessions}
+use Rattle.wholelog.specs.Computed.{has_any}
 use Rattle.wholelog.specs.Sums.{sums_of, sums_with, Within}
 use Rattle.wholelog.specs.declared.sharing.Sums.{Sums}
 use Rattle.wholelog.proofs.RowsLaws.{RowWithin}
@@ -72,10 +74,14 @@ sums-within answer ws h few =
     let m = sessions-most ws h few in
     record { few_fitting = omega (arith, a, m); few_spent = omega (arith, a, m); few = m }
 
--- sessions are none only if there is no row
-pub sessions_some : (ws : List LoggedRow) → All RowWithin ws → 0 < length ws → 0 < sessions_of ws
-sessions_some [] h l = absurd (omega arith)
+-- there are sessions exactly if there is a row
+pub sessions_some : (ws : List LoggedRow) → All RowWithin ws → has_any ws ≡ true → 0 < sessions_of ws
+sessions_some [] h l = absurd (false-not-true refl l)
 sessions_some (w ∷ ws) h l = omega (arith, of-first w ws, (All-head RowWithin w ws h).some_sessions)
+
+pub rows_some : (ws : List LoggedRow) → 0 < sessions_of ws → has_any ws ≡ true
+rows_some [] h = absurd (omega arith)
+rows_some (w ∷ ws) h = refl
 
 -- the sums with a row first whose replay answers a
 record FirstOf (answer : List ℕ → ReplaySays) (w : LoggedRow) (ws : List LoggedRow) (a : ReplaySays) : Type 0 where
@@ -110,7 +116,7 @@ module _ (answer : List ℕ → ReplaySays) (ws : List LoggedRow) where
   pub so_far_within : (left : List LoggedRow) (sums : Sums) → SoFar answer ws left sums → Within (sums_of answer ws) → Within sums
   so_far_within left sums z h = record { few_fitting = omega (arith, z.fitting, h.few_fitting); few_spent = omega (arith, z.spent, h.few_spent); few = omega (arith, z.all, h.few) }
 
-  pub so_far_more : (w : LoggedRow) (left : List LoggedRow) (sums : Sums) (o : Outcome) → outcome_means o ≡ answer w.trace → SoFar answer ws (w ∷ left) sums
+  so_far_more : (w : LoggedRow) (left : List LoggedRow) (sums : Sums) (o : Outcome) → outcome_means o ≡ answer w.trace → SoFar answer ws (w ∷ left) sums
       → SoFar answer ws left (sums_with sums w.sessions o)
   so_far_more w left sums o e z = go o (subst (FirstOf answer w left) (sym e) (sums-first answer w left))
     where

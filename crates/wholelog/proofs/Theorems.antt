@@ -1,14 +1,13 @@
 -- The statements of specs/Statements.antt. The rows are within the limits, so in a net that passes the call of replay refuses none of
 -- them and answers what is answered in a net that has been checked; and the figures that are computed are those of the rows. Assumes nothing.
-use Prim.Native.Nat.{ℕ, ◌+◌, ◌*◌, ◌≤◌, ◌<◌}
+use Prim.Native.Nat.{ℕ, ◌+◌, ◌*◌, ◌≤◌}
 use mathlib.Core.Path.{◌≡◌, refl, sym, ap, subst, ◌∙◌}
 use mathlib.Core.Logic.{◌↔◌}
 use mathlib.Core.Bool.{Bool, true, false, cond}
-use mathlib.Core.List.{List, [], ◌∷◌}
+use mathlib.Core.List.{List}
 use native.Mathlib.Omega.{arith}
 use lib.ListN.{length, get_or, replicate, length-replicate}
 use Rattle.obligations.specs.Limits.{positions}
-use Rattle.obligations.proofs.BoolLaws.{false-not-true}
 use Rattle.net.specs.Refusals.{no_rows}
 use Rattle.net.specs.Sides.{uncounted}
 use Rattle.net.specs.Orderly.{orderly}
@@ -22,12 +21,12 @@ use Rattle.walks.proofs.Theorems.{none_holds-passes}
 use Rattle.search.specs.Replay.{ReplaySays, checked_says, replay_says}
 use Rattle.search.proofs.Theorems.{none_holds_replayable, unrefused_call}
 use Rattle.wholelog.specs.Rows.{LoggedRow}
-use Rattle.wholelog.specs.Share.{FiguresOf, log_sessions, LogSays, says_figures, log_refused, ShareSays, net_refused, says_of_log, sessions_of}
+use Rattle.wholelog.specs.Share.{FiguresOf, log_sessions, LogSays, says_figures, log_refused, ShareSays, net_refused, says_of_log}
 use Rattle.wholelog.specs.Computed.{log_says, rows_of, has_any, figures_of, checked_share, share_says}
 use Rattle.wholelog.specs.Statements.{LogListed, RowsFound, RowsCalled, ShareNetListed, ShareOfLog, ShareLogListed, ShareSaid, ThousandOnce, ShareBounded, SharePassesOver}
 use Rattle.wholelog.specs.declared.sharing.Figures.{Figures}
 use Rattle.wholelog.proofs.RowsLaws.{more_room, found_within, rows_exactly}
-use Rattle.wholelog.proofs.SumLaws.{sums-apart, sessions-most, sessions_some}
+use Rattle.wholelog.proofs.SumLaws.{sums-apart, sessions-most, sessions_some, rows_some}
 use Rattle.wholelog.proofs.ShareLaws.{figures_are, figures_once, figures_same, in_a_thousand-most}
 use Rattle.wholelog.proofs.ShareLaws as shares
 use Rattle.wholelog.proofs.RefusalLaws as refusals
@@ -63,11 +62,6 @@ rows_called net log budget room none h k d lt =
     let replayable = (none_holds_replayable net w.trace (length out)).1 (record { net_passes = (none_holds-passes net).0 none; trace_with_room = fits }) in
     ap (replay_says net w.trace budget) (sym long) ∙ (unrefused_call net w.trace budget out replayable).0
 
--- where there are sessions there are rows
-some_rows : (ws : List LoggedRow) → 0 < sessions_of ws → 0 < length ws
-some_rows [] h = absurd (omega arith)
-some_rows (w ∷ ws) h = omega arith
-
 module _ (net : Net) (log : List ℕ) (budget : ℕ) where
   abbrev checked : List ℕ → ReplaySays
   checked t = checked_says net t budget
@@ -75,7 +69,7 @@ module _ (net : Net) (log : List ℕ) (budget : ℕ) where
   -- what has been said if figures are said
   record Said (s : Figures) : Type 0 where
     log_ok : (log_says log).ok ≡ true
-    some_rows : 0 < length (rows_of log)
+    some_rows : has_any (rows_of log) ≡ true
     figures : figures_of checked (rows_of log) ≡ s
 
   abbrev figures_in : Figures → LogSays → Figures
@@ -86,24 +80,16 @@ module _ (net : Net) (log : List ℕ) (budget : ℕ) where
   unfolding checked_share
   said s e = go (log_says log).ok (has_any (rows_of log)) refl refl e
     where
-      some : (ws : List LoggedRow) → has_any ws ≡ true → 0 < length ws
-      some [] h = absurd (false-not-true refl h)
-      some (w ∷ ws) h = omega arith
-
       go : (a b : Bool) → (log_says log).ok ≡ a → has_any (rows_of log) ≡ b
           → cond a (cond b (says_figures (figures_of checked (rows_of log))) (log_refused no_rows 0)) (log_refused (log_says log).refusal (log_says log).place) ≡ says_figures s
           → Said s
-      go true true x y q = record { log_ok = x; some_rows = some (rows_of log) y; figures = ap (figures_in s) q }
+      go true true x y q = record { log_ok = x; some_rows = y; figures = ap (figures_in s) q }
       go true false x y q = absurd (refusals.figures-not_refused s no_rows 0 (sym q))
       go false b x y q = absurd (refusals.figures-not_refused s (log_says log).refusal (log_says log).place (sym q))
 
   said_back : (s : Figures) → Said s → checked_share net log budget ≡ says_figures s
   unfolding checked_share
-  said_back s w = rw (w.log_ok, some (rows_of log) w.some_rows) (ap says_figures w.figures)
-    where
-      some : (ws : List LoggedRow) → 0 < length ws → has_any ws ≡ true
-      some [] h = absurd (omega arith)
-      some (w ∷ ws) h = refl
+  said_back s w = rw (w.log_ok, w.some_rows) (ap says_figures w.figures)
 
   abbrev log_in : LogSays → ShareSays → LogSays
   log_in x (net_refused n p) = x
@@ -128,7 +114,7 @@ share_said net log budget s = (
   (λ w.
       let r = (rows_exactly log w.1).0 w.2 in
       let f : FiguresOf answer (rows_of log) s = subst (λ (vs : List LoggedRow). FiguresOf answer vs s) r.1 w.3 in
-      let some = some_rows (rows_of log) (omega (arith, f.in_a_thousand.below_all, f.all)) in
+      let some = rows_some (rows_of log) (omega (arith, f.in_a_thousand.below_all, f.all)) in
       let of = figures_are answer (rows_of log) (sessions_some (rows_of log) (found_within log).0 some) in
       let figures = sym (same w.0) ∙ figures_once answer (rows_of log) _ s of f in
       (said_of-log net log budget (says_figures s)).1 (w.0, said_back net log budget s (record { log_ok = r.0; some_rows = some; figures = figures }))),

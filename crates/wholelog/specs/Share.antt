@@ -39,7 +39,7 @@ fitting_of answer ws = sessions_of (filter (λ w. is_found (answer w.trace)) ws)
 abbrev pub spent_of : (List ℕ → ReplaySays) → List LoggedRow → ℕ
 spent_of answer ws = sessions_of (filter (λ w. is_spent (answer w.trace)) ws)
 
--- q in a thousand of all are fitting, with r over
+-- q in a thousand of all are fitting, and r is left over
 pub record InAThousand (fitting all q r : ℕ) : Type 0 where
   pub shared_out : 1000 * fitting ≡ q * all + r
   pub below_all : r < all

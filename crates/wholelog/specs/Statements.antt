@@ -33,10 +33,11 @@ RowsCalled =
 
 -- ---- the share of fitting sessions
 
--- the net's refusals are given as the net check lists them, and where none of them holds it is said what is said of the log
+-- the net's refusals are given as the net check lists them
 abbrev pub ShareNetListed : Type 0
 ShareNetListed = (net : Net) (log : List ℕ) (budget : ℕ) → AsListed net_refused (check_refusals net) (share_says net log budget)
 
+-- and where none of them holds, what is said is what is said of the log
 abbrev pub ShareOfLog : Type 0
 ShareOfLog = (net : Net) (log : List ℕ) (budget : ℕ) → NoneHolds (check_refusals net) → share_says net log budget ≡ says_of_log (checked_share net log budget)
 

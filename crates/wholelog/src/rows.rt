@@ -44,16 +44,16 @@ pub struct Replayed {
 }
 
 impl<'t> Rows<'t> {
-    ghost use Rattle.std.specs.Prelude.{[]};
+    ghost use Rattle.std.specs.Prelude.{[], MatchOption};
     ghost use Rattle.net.specs.Inner.{SidesFit};
-    ghost use Rattle.search.specs.Replay.{checked_says};
+    ghost use Rattle.search.specs.Replay.{checked_says, checked_gives};
     ghost use Rattle.wholelog.specs.Computed.{rows_of};
-    ghost use Rattle.wholelog.specs.Left.{rows_left, last_trace, NextGiven, NextReplayed};
+    ghost use Rattle.wholelog.specs.Left.{rows_left, rows_given, last_trace, NextGiven, NextReplayed};
 
     // No row is given yet.
     pub fn new(log: &'t [u8]) -> Rows<'t>
         ensures left { rows_left result ≡ rows_of log.now }
-        ensures none_given { result.given ≡ 0 }
+        ensures none_given { rows_given result ≡ 0 }
         ensures no_trace { last_trace result ≡ [] }
     {
         Rows {
@@ -82,8 +82,8 @@ impl<'t> Rows<'t> {
         Some(row)
     }
 
-    // Gives the next row, replayed on a lent net that has passed the check, with the whole budget. `bindings` is room for the search; a
-    // caller lends it, so that it isn't filled anew for each row.
+    // Gives the next row, replayed on a lent net that has passed the check, with the whole budget. A sequence that is found is at the
+    // front of `bindings`, which a caller lends, so that it isn't made anew for each row.
     pub fn replay_next(
         &mut self,
         net: &Net,
@@ -91,7 +91,8 @@ impl<'t> Rows<'t> {
         bindings: &mut [u32; SEQUENCE_WORDS],
     ) -> Option<Replayed>
         requires { SidesFit net.now.inputs × SidesFit net.now.outputs }
-        ensures { NextReplayed (λ t. checked_says net.now t budget) self.old result self.new }
+        ensures row { NextReplayed (λ t. checked_says net.now t budget) self.old result self.new }
+        ensures buffer { MatchOption result (bindings.new ≡ bindings.old) (λ _. bindings.new ≡ checked_gives net.now (last_trace self.new) budget bindings.old) }
     {
         let row = self.next()?;
         let outcome = replay_lent(net, self.trace(), budget, bindings);
@@ -104,7 +105,7 @@ impl<'t> Rows<'t> {
 
     // How many rows were given, and so the last one's number.
     pub fn given(&self) -> u32
-        ensures { result ≡ self.now.given }
+        ensures { result ≡ rows_given self.now }
     {
         self.given
     }

@@ -7,7 +7,7 @@ use Rattle.net.specs.declared.sides.Side.TheVariants.{Input, Output}
 use Rattle.net.proofs.OrderlyLaws.{orderly_fit}
 use Rattle.search.specs.Replay.{ReplaySays, outcome_means, checked_says}
 use Rattle.wholelog.specs.Computed.{rows_of}
-use Rattle.wholelog.specs.Left.{rows_left}
+use Rattle.wholelog.specs.Left.{rows_left, rows_given}
 use Rattle.report.specs.RowLines.{report_line, rows_text}
 use Rattle.report.specs.Report.{row_budget}
 use Rattle.report.proofs.TextLaws.{rows-none, given_line}
@@ -29,17 +29,17 @@ write_row-requires c =
     let answer : List ℕ → ReplaySays = λ t. checked_says c.args.net.now t row_budget in
     let new = c.replay_next.new.self in
     let row = c.in-Some.row in
-    storing_room _ _ _ _ c.loop-row.invariant (report_line row.row row.sessions (outcome_means row.outcome)) (rows_text answer (new.given + 1) (rows_left new)) (given_line answer c.loop-row.rows new row c.in-Some.ensures)
+    storing_room _ _ _ _ c.loop-row.invariant (report_line row.row row.sessions (outcome_means row.outcome)) (rows_text answer (rows_given new + 1) (rows_left new)) (given_line answer c.loop-row.rows new row c.in-Some.ensures.row)
 
 pub loop-row-preserved : goal.loop-row-preserved
 loop-row-preserved c =
     let answer : List ℕ → ReplaySays = λ t. checked_says c.args.net.now t row_budget in
     let new = c.replay_next.new.self in
     let row = c.in-Some.row in
-    storing_more _ _ _ _ c.loop-row.invariant (report_line row.row row.sessions (outcome_means row.outcome)) (rows_text answer (new.given + 1) (rows_left new)) _ (given_line answer c.loop-row.rows new row c.in-Some.ensures) c.write_row.ensures
+    storing_more _ _ _ _ c.loop-row.invariant (report_line row.row row.sessions (outcome_means row.outcome)) (rows_text answer (rows_given new + 1) (rows_left new)) _ (given_line answer c.loop-row.rows new row c.in-Some.ensures.row) c.write_row.ensures
 
 pub returns : goal.returns
 returns c =
     let answer : List ℕ → ReplaySays = λ t. checked_says c.args.net.now t row_budget in
-    let n : ℕ = c.loop-row.rows.given + 1 in
-    storing_end _ _ _ _ c.loop-row.invariant (ap (rows_text answer n) c.in_default.ensures.none ∙ rows-none answer n)
+    let n : ℕ = rows_given c.loop-row.rows + 1 in
+    storing_end _ _ _ _ c.loop-row.invariant (ap (rows_text answer n) c.in_default.ensures.row.none ∙ rows-none answer n)

@@ -14,16 +14,16 @@ with-sums-requires c =
     let answer : List ℕ → ReplaySays = λ t. checked_says a.net.now t a.budget in
     let ws = rows_of a.log.now in
     let within = found_within a.log.now in
-    let more = so_far_next answer ws c.loop-row.rows c.replay_next.new.self c.in-Some.row c.loop-row.sums c.in-Some.ensures c.loop-row.invariant in
+    let more = so_far_next answer ws c.loop-row.rows c.replay_next.new.self c.in-Some.row c.loop-row.sums c.in-Some.ensures.row c.loop-row.invariant in
     so_far_within answer ws (rows_left c.replay_next.new.self) _ more (sums-within answer ws within.0 within.1)
 
 pub loop-row-preserved : goal.loop-row-preserved
 loop-row-preserved c =
     let a = c.args in
     let answer : List ℕ → ReplaySays = λ t. checked_says a.net.now t a.budget in
-    rw c.with-sums.ensures (so_far_next answer (rows_of a.log.now) c.loop-row.rows c.replay_next.new.self c.in-Some.row c.loop-row.sums c.in-Some.ensures c.loop-row.invariant)
+    rw c.with-sums.ensures (so_far_next answer (rows_of a.log.now) c.loop-row.rows c.replay_next.new.self c.in-Some.row c.loop-row.sums c.in-Some.ensures.row c.loop-row.invariant)
 
 pub returns : goal.returns
 returns c =
     let a = c.args in
-    so_far_end (λ t. checked_says a.net.now t a.budget) (rows_of a.log.now) (rows_left c.loop-row.rows) c.loop-row.sums c.in_default.ensures.none c.loop-row.invariant
+    so_far_end (λ t. checked_says a.net.now t a.budget) (rows_of a.log.now) (rows_left c.loop-row.rows) c.loop-row.sums c.in_default.ensures.row.none c.loop-row.invariant
