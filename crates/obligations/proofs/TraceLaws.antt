@@ -46,6 +46,11 @@ module _ (start end n : ℕ) (activity_at : ℕ → ℕ) where
       (eq-eqb (first_failing n (ends_agree start end n activity_at)) 0 (pass_first n (ends_agree start end n activity_at) (λ i l.
       and_both ((agree_iff (activity_at i) start i 0).1 (f.start_first_only i l)) ((agree_iff (activity_at i) end (i + 1) n).1 (f.end_last_only i l)))))
 
+  -- a trace of two positions or more has that shape where each position agrees
+  pub ends_agree_lem : 2 ≤ n → AllPass n (ends_agree start end n activity_at) → shaped start end n activity_at ≡ true
+  unfolding shaped
+  ends_agree_lem h all = rw (le-leb 2 n h, pass_first n (ends_agree start end n activity_at) all)
+
 -- ---- what the two walks answer
 
 -- the test of each position

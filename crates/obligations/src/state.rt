@@ -24,8 +24,8 @@ const PARTS: usize = 4;
 
 const PART: usize = PAIRS / PARTS;
 
-// What is due: the counts of all pairs.
-#[derive(Drop)]
+// What is due: the counts of all pairs. A caller may keep a state, and compare two.
+#[derive(Clone, Copy, PartialEq, Eq)]
 pub struct Due {
     counts: [u8; PAIRS],
 }
@@ -37,6 +37,8 @@ impl Model for Due {
     ghost view = { λ s. s.counts };
 
     ghost invariant = { λ s. length s.counts ≡ pairs };
+
+    ghost inverse = { λ counts. record { counts = counts } };
 }
 
 impl Due {
@@ -45,6 +47,20 @@ impl Due {
         ensures { result ≡ nothing }
     {
         Due { counts: [0; PAIRS] }
+    }
+
+    // The state with these counts, of which each may be any.
+    pub fn of(counts: [u8; PAIRS]) -> Due
+        ensures { result ≡ counts }
+    {
+        Due { counts }
+    }
+
+    // The counts: that of (p, q) is at q * 32 + p.
+    pub fn counts(&self) -> &[u8; PAIRS]
+        ensures { result.now ≡ self.now }
+    {
+        &self.counts
     }
 
     // The activities because of which a is due.
