@@ -25,8 +25,10 @@ pub fn replay(net: Net, trace: &[u32], budget: u64, out: &mut [u32]) -> Result<O
     if let Some(place) = trace::first_no_activity(trace, 1, trace.len()) {
         return Err(Refusal::NoActivity.at(place));
     }
-    check_lent(&net)?;
-    Ok(replay_lent(&net, trace, budget, out))
+    match check_lent(&net) {
+        Ok(_) => Ok(replay_lent(&net, trace, budget, out)),
+        Err(refused) => Err(refused),
+    }
 }
 
 // Whether a trace of n entries isn't too long, and a buffer of `room` words has three for each position.

@@ -1,6 +1,5 @@
 -- `replay` meets its contract: the refusals number by number, and then the replay in the net that passed. Assumes nothing.
 use Rattle.std.proofs.Common.{◌≡◌, sym, ap, ◌∙◌, arith, length, get_or}
-use Rattle.std.proofs.lemmas.Result.{err_from_is_err_and}
 use Rattle.obligations.proofs.PositionLaws.{some_position, none_position}
 use Rattle.obligations.proofs.TraceLaws.{activities_below}
 use Rattle.net.specs.Refusals.{accepted, refused, no_activity}
@@ -38,13 +37,12 @@ returns-in-Some c =
     (refused_done g.net g.trace.now _ _ _
     (refuses_activity g.net g.trace.now _ (sym c.if-not-is_orderly.ensures) (sym c.if-not-has_room.ensures) (λ z. omega (arith, p.1)) ∙ ap (refused no_activity) is))
 
-pub returns-in_err-check_lent : goal.returns-in_err-check_lent
-returns-in_err-check_lent c =
+pub returns-in-Err : goal.returns-in-Err
+returns-in-Err c =
     let g = c.args in
     let a = sym (no_activity-ones g.trace.now) ∙ none_position _ (sym c.in_default.ensures) in
-    let p = err_from_is_err_and c.from_residual.result c.from_residual.ensures.1 in
     let net_decides = tests_net g.net g.trace.now (length g.out.now) (sym c.if-not-is_orderly.ensures) (sym c.if-not-has_room.ensures) a in
-    rw (p.1, p.2) (refused_done g.net g.trace.now _ _ _ (net_decides ∙ answer_refused g.net c.check_lent.result c.check_lent.ensures (accepted 0) _ c.in_err-check_lent.was))
+    refused_done g.net g.trace.now _ _ _ (net_decides ∙ answer_refused g.net c.check_lent.result c.check_lent.ensures (accepted 0) _ c.in-Err.is)
 
 pub replay_lent-requires-clause-sides : goal.replay_lent-requires-clause-sides
 replay_lent-requires-clause-sides c = let o = sym c.if-not-is_orderly.ensures in (orderly_fit c.args.net o Input, orderly_fit c.args.net o Output)
@@ -56,10 +54,10 @@ replay_lent-requires-clause-trace_with_room c =
     let a = sym (no_activity-ones trace) ∙ none_position _ (sym c.in_default.ensures) in
     record { few_positions = f.0; activities_only = activities_below (length trace) (λ i. get_or trace i 0) a; three_words_each = f.1 }
 
-pub returns : goal.returns
-returns c =
+pub returns-in-Ok : goal.returns-in-Ok
+returns-in-Ok c =
     let g = c.args in
     let a = sym (no_activity-ones g.trace.now) ∙ none_position _ (sym c.in_default.ensures) in
     let net_decides = tests_net g.net g.trace.now (length g.out.now) (sym c.if-not-is_orderly.ensures) (sym c.if-not-has_room.ensures) a in
-    let clear = answer_clear g.net c.check_lent.result c.check_lent.ensures _ c.in_ok-check_lent.was in
+    let clear = answer_clear g.net c.check_lent.result c.check_lent.ensures _ c.in-Ok.is in
     unrefused_done g.net g.trace.now _ (net_decides ∙ passing_rest g.net _ clear) c.replay_lent.ensures

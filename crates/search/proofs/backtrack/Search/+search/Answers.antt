@@ -11,7 +11,7 @@ use Rattle.obligations.specs.State.{possible, taken, untaken}
 use Rattle.obligations.proofs.StateLaws.{state_le}
 use Rattle.net.specs.Sides.{sets_on}
 use Rattle.net.specs.declared.Net.{Net}
-use Rattle.net.specs.declared.sides.Side.TheVariants.{Output}
+use Rattle.net.specs.declared.sides.Side.TheVariants.{Input, Output}
 use Rattle.search.specs.Search.{Result, failed, later}
 use Rattle.search.specs.Backtrack.{search_lent, search_taken, Searched}
 use Rattle.search.specs.declared.Outcome.{Outcome}
@@ -64,7 +64,7 @@ no_more (x ∷ xs) e = absurd (omega arith)
 pub inputs-returns-then-at-self : goal.inputs-returns-then-at-self
 inputs-returns-then-at-self t c =
     let s = c.args.self.now in
-    turns.at_end_lem s.net.now s.trace.now c.args.at _ c.if-at-self.true c.requires.within c.requires.room c.at_end.ensures
+    turns.at_end_lem (λ a. sets_on s.net.now Input a) (λ a. sets_on s.net.now Output a) s.trace.now c.args.at _ c.if-at-self.true c.requires.within c.requires.room c.at_end.ensures
 
 pub inputs-loop-count-init : goal.inputs-loop-count-init
 inputs-loop-count-init t c =
@@ -147,7 +147,7 @@ inputs-loop-count-preserved t c =
 pub outputs-returns-then-count-self : goal.outputs-returns-then-count-self
 outputs-returns-then-count-self t c =
     let s = c.args.self.now in
-    rw c.spent.ensures (turns.turn_beyond (λ d. search_lent s.net.now s.trace.now (c.args.at + 1) d) (get_or s.trace.now c.args.at 0) c.args.x c.loop-y.y-index _ c.sets-sets.result.now c.loop-y-test.true (omega (arith, c.if-count-self.true)) c.loop-y.invariant)
+    rw c.spent.ensures (turns.turn_beyond (λ d. search_lent s.net.now s.trace.now (c.args.at + 1) d) (get_or s.trace.now c.args.at 0) c.args.x c.loop-y.y-index _ _ c.loop-y-test.true (omega (arith, c.if-count-self.true)) c.loop-y.invariant)
 
 pub outputs-inputs-next-requires : goal.outputs-inputs-next-requires
 outputs-inputs-next-requires t c =
@@ -165,24 +165,24 @@ outputs-returns-in-Found t c =
     let s = c.args.self.now in
     let g = c.loop-y.invariant in
     let u = turns.undone_add _ _ c.add.ensures c.inputs-next.ensures.restores c.undo_add.ensures in
-    turns.part_found (turns.turn_added (λ d. search_lent s.net.now s.trace.now (c.args.at + 1) d) (get_or s.trace.now c.args.at 0) c.args.x c.loop-y.y-index c.sets-sets.result.now _ c.loop-y-test.true c.add.ensures g) c.in-Found.is
+    turns.part_found (turns.turn_added (λ d. search_lent s.net.now s.trace.now (c.args.at + 1) d) (get_or s.trace.now c.args.at 0) c.args.x c.loop-y.y-index _ _ c.loop-y-test.true c.add.ensures g) c.in-Found.is
     (turns.pair_found s.net.now s.trace.now _ _ _ _ _ _ c.requires.position (turns.room_same g.out_same c.requires.room) c.in-Found.is c.inputs-next.ensures c.write_binding.ensures u)
 
 pub outputs-returns-in-Spent : goal.outputs-returns-in-Spent
 outputs-returns-in-Spent t c =
     let s = c.args.self.now in
     let u = turns.undone_add _ _ c.add.ensures c.inputs-next.ensures.restores c.undo_add.ensures in
-    turns.part_spent (turns.turn_added (λ d. search_lent s.net.now s.trace.now (c.args.at + 1) d) (get_or s.trace.now c.args.at 0) c.args.x c.loop-y.y-index c.sets-sets.result.now _ c.loop-y-test.true c.add.ensures c.loop-y.invariant) c.in-Spent.is
+    turns.part_spent (turns.turn_added (λ d. search_lent s.net.now s.trace.now (c.args.at + 1) d) (get_or s.trace.now c.args.at 0) c.args.x c.loop-y.y-index _ _ c.loop-y-test.true c.add.ensures c.loop-y.invariant) c.in-Spent.is
     (turns.pair_spent s.net.now s.trace.now _ _ _ _ _ _ c.in-Spent.is c.inputs-next.ensures u)
 
 pub outputs-loop-y-preserved : goal.outputs-loop-y-preserved
 outputs-loop-y-preserved t c =
     let s = c.args.self.now in
     let u = turns.undone_add _ _ c.add.ensures c.inputs-next.ensures.restores c.undo_add.ensures in
-    turns.part_failed (turns.turn_added (λ d. search_lent s.net.now s.trace.now (c.args.at + 1) d) (get_or s.trace.now c.args.at 0) c.args.x c.loop-y.y-index c.sets-sets.result.now _ c.loop-y-test.true c.add.ensures c.loop-y.invariant) c.in-Failed.is
+    turns.part_failed (turns.turn_added (λ d. search_lent s.net.now s.trace.now (c.args.at + 1) d) (get_or s.trace.now c.args.at 0) c.args.x c.loop-y.y-index _ _ c.loop-y-test.true c.add.ensures c.loop-y.invariant) c.in-Failed.is
     (turns.pair_failed s.net.now s.trace.now _ _ _ _ _ _ c.in-Failed.is c.inputs-next.ensures u)
 
 pub outputs-returns : goal.outputs-returns
 outputs-returns t c =
     let s = c.args.self.now in
-    turns.outputs_done (λ d. search_lent s.net.now s.trace.now (c.args.at + 1) d) (get_or s.trace.now c.args.at 0) c.args.x c.loop-y.y-index _ c.sets-sets.result.now (omega (arith, c.loop-y-test.false)) c.loop-y.invariant
+    turns.outputs_done (λ d. search_lent s.net.now s.trace.now (c.args.at + 1) d) (get_or s.trace.now c.args.at 0) c.args.x c.loop-y.y-index _ _ (omega (arith, c.loop-y-test.false)) c.loop-y.invariant
