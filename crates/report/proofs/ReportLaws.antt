@@ -140,6 +140,15 @@ module _ (kind : ReportKind) (net log : List ℕ) where
   unfolding report_text
   report_net-checked e = rw e refl
 
+  -- every report has room in a buffer of 32,768 bytes
+  pub report_short : length (report_text kind net log) ≤ report_room
+  unfolding report_text
+  report_short = go (read_checked net).says.ok
+    where
+      go : (a : Bool) → length (cond a (checked_text kind (read_checked net).net log) (refusal_text net_word (read_checked net).says.refusal (read_checked net).says.place)) ≤ report_room
+      go true = log_short kind (read_checked net).net log
+      go false = omega (arith, refusal_short net_word (read_checked net).says.refusal (read_checked net).says.place)
+
 -- what was written as the report of a log is no longer than the room
 pub log_wrote_short : (kind : ReportKind) (net : Net) (log buf buf' : List ℕ) (r : ℕ) → Wrote buf 0 (checked_text kind net log) buf' r → r ≤ report_room
 log_wrote_short kind net log buf buf' r w = omega (arith, w.next, log_short kind net log)

@@ -25,7 +25,7 @@ arcs-uncounted net = refl
 pub passing-uncounted : (net : Net) (rest : Says) → passing (uncounted net) rest ≡ passing net rest
 passing-uncounted net rest = rw (lost-uncounted net, unanswered-uncounted net)
 
-pass_says-uncounted : (net : Net) → pass_says (uncounted net) ≡ pass_says net
+pub pass_says-uncounted : (net : Net) → pass_says (uncounted net) ≡ pass_says net
 pass_says-uncounted net = rw (lost-uncounted net, unanswered-uncounted net, arcs-uncounted net)
 
 pub check_says-uncounted : (net : Net) → orderly net ≡ true → check_says (uncounted net) ≡ check_says net
