@@ -19,7 +19,8 @@ use Rattle.net.specs.Lists.{blank, ascends_above, zeros}
 use Rattle.net.specs.Sides.{block, uncounted, sets_in, empty_at, sets_on, counts_on, count_of, OnSide}
 use Rattle.net.specs.Inner.{OrderlySides}
 use Rattle.net.specs.Orderly.{block_ok, ends_ok, sides_ok, orderly}
-use Rattle.net.specs.Fresh.{just_empty, fresh_net, fresh_gives}
+use Rattle.net.specs.Refusals.{accepted}
+use Rattle.net.specs.Fresh.{just_empty, fresh_net, fresh_says, fresh_gives}
 use Rattle.net.specs.declared.sides.Side.{Side}
 use Rattle.net.specs.declared.sides.Sides.{Sides}
 use Rattle.net.specs.declared.sides.Side.TheVariants.{Input, Output}
@@ -126,7 +127,11 @@ pub fresh_gives-uncounted : (start end : ℕ) → uncounted (fresh_gives start e
 unfolding fresh_gives
 fresh_gives-uncounted start end = ⊎_elim (λ e. rw e (fresh-uncounted start end)) (λ e. rw e (fresh-uncounted 0 1)) (true_or_false (ends_ok start end))
 
--- ---- the net that fresh returns
+-- ---- what fresh answers, and the net that it returns
+
+pub fresh_accepted : (start end : ℕ) → ends_ok start end ≡ true → fresh_says start end ≡ accepted 0
+unfolding fresh_says
+fresh_accepted start end h = rw h
 
 pub fresh_given : (start end : ℕ) → ends_ok start end ≡ true → fresh_gives start end ≡ fresh_net start end
 unfolding fresh_gives

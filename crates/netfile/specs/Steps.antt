@@ -7,7 +7,8 @@ use Rattle.net.specs.Fresh.{fresh_net}
 use Rattle.net.specs.declared.Net.{Net}
 use Rattle.net.specs.declared.refusal.Refusal.{Refusal}
 use Rattle.net.specs.declared.refusal.Refused.{Refused}
-use Rattle.netfile.specs.NetFile.{row_says, row_gives, read_rows, from_start}
+use Rattle.netfile.specs.Limits.{net_bytes}
+use Rattle.netfile.specs.NetFile.{row_says, row_gives, read_rows, from_start, read_net}
 use Rattle.netfile.specs.declared.line.SetRow.{SetRow}
 
 -- what line n answers, with its number where it is refused
@@ -20,6 +21,12 @@ pub record EndsRead (text : List ℕ) (start end : ℕ) (rows : List ℕ) : Type
   pub ends : ends_ok start end ≡ true
   pub short : length rows ≤ length text
   pub left : read_rows 4 (fresh_net start end) (lines rows) ≡ from_start (lines text)
+
+-- the same was read from line 1 on
+pub record HeadRead (text : List ℕ) (start end : ℕ) (rows : List ℕ) : Type 0 where
+  pub ends : ends_ok start end ≡ true
+  pub short : length rows ≤ net_bytes
+  pub left : read_rows 4 (fresh_net start end) (lines rows) ≡ read_net text
 
 -- what was read of a row was put into a net
 pub record PutRow (net : Net) (row : Result SetRow Refusal) (r : Result ⊤ Refusal) (net' : Net) : Type 0 where

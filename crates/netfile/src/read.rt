@@ -4,10 +4,11 @@ ghost use Rattle.std.specs.Prelude.{◌≡◌, true, Ok, ◌≤◌, ◌<◌, len
 ghost use Rattle.obligations.specs.Limits.{activities};
 ghost use Rattle.text.specs.Lines.{lines};
 ghost use Rattle.net.specs.Sides.{uncounted};
-ghost use Rattle.net.specs.Orderly.{orderly};
+ghost use Rattle.net.specs.Orderly.{ends_ok, orderly};
+ghost use Rattle.net.specs.Fresh.{fresh_net};
 ghost use Rattle.netfile.specs.Limits.{net_bytes};
 ghost use Rattle.netfile.specs.NetFile.{Reads, refused_with, read_as, read_rows, read_set_row, from_start, read_net};
-ghost use Rattle.netfile.specs.Steps.{EndsRead, on_line, PutRow};
+ghost use Rattle.netfile.specs.Steps.{EndsRead, HeadRead, on_line, PutRow};
 
 use crate::NET_BYTES;
 use crate::line::{SetRow, end_line, row_line};
@@ -15,17 +16,16 @@ use net::putting::put_side;
 use net::{Net, Refusal, Refused, Returned, fresh};
 use text::lines::{lines_of, split_line};
 
-// Reads a net file.
+// Reads a net file. Here and in `read_from` a refusal returns at once and the net is made in what is returned. Where both come together in
+// one value, tried, a net more is zeroed and copied, which takes half as long again as reading a small net does.
 pub fn read_net(text: &[u8]) -> Returned<()>
     ensures { Reads (read_net text.now) result }
 {
-    match read_text(text) {
-        Ok(net) => Returned {
-            answer: Ok(()),
-            net,
-        },
-        Err(refused) => refused_reading(refused),
-    }
+    let (start, end, rows) = match read_head(text) {
+        Ok(head) => head,
+        Err(refused) => return refused_reading(refused),
+    };
+    read_from(start, end, rows)
 }
 
 // A refused reading: the fresh net of 0 and 1.
@@ -38,9 +38,9 @@ pub fn refused_reading(refused: Refused) -> Returned<()>
     }
 }
 
-// The net that a text says.
-fn read_text(text: &[u8]) -> Result<Net, Refused>
-    ensures { MatchResult result (λ net. read_as net ≡ read_net text.now) (λ r. refused_with r ≡ read_net text.now) }
+// The start and the end, which the first three lines say, and what is behind these.
+fn read_head(text: &[u8]) -> Result<(u32, u32, &[u8]), Refused>
+    ensures { MatchResult result (λ h. HeadRead text.now h.0 h.1 h.2.now) (λ r. refused_with r ≡ read_net text.now) }
 {
     if NET_BYTES < text.len() {
         return Err(Refusal::OutsideLimits.at(0));
@@ -49,10 +49,20 @@ fn read_text(text: &[u8]) -> Result<Net, Refused>
     if header != b"side,activity,members".as_slice() {
         return Err(Refusal::LineForm.at(1));
     }
-    let (start, end, rows) = read_ends(rest)?;
-    let mut net = fresh(start, end).net;
-    put_rows(&mut net, rows)?;
-    Ok(net)
+    read_ends(rest)
+}
+
+// The net of a start and an end with the sets of the rows.
+fn read_from(start: u32, end: u32, rows: &[u8]) -> Returned<()>
+    requires ends { ends_ok start end ≡ true }
+    requires short { length rows.now ≤ net_bytes }
+    ensures { Reads (read_rows 4 (fresh_net start end) (lines rows.now)) result }
+{
+    let mut read = fresh(start, end);
+    if let Err(refused) = put_rows(&mut read.net, rows) {
+        return refused_reading(refused);
+    }
+    read
 }
 
 // The start and the end, which lines 2 and 3 say, and what is behind them. A line that is missing reads as an empty one: 13.
@@ -80,8 +90,10 @@ fn on_line<T>(number: u32, answer: Result<T, Refusal>) -> Result<T, Refused>
 }
 
 // Puts the rows, which start at line 4, into an orderly net with counts 0. The net is changed in place, but for its counts.
+// Not inlined, tried: with the loop beside it the compiler zeroes the net of `read_from` once more before it is made.
 // Orderly and uncounted are clauses here and below, and no type: a net's words may be any, `fresh` made this one so in
-// `read_text`, and the type would serve these three functions alone.
+// `read_from`, and the type would serve these three functions alone.
+#[inline(never)]
 fn put_rows(net: &mut Net, rows: &[u8]) -> Result<(), Refused>
     requires orderly { orderly net.old ≡ true }
     requires uncounted { uncounted net.old ≡ net.old }

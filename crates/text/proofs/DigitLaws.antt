@@ -1,6 +1,6 @@
 -- Laws of digits, for the loops over them. Reading may stop at the first byte that decides, since a value only grows with
 -- further digits; writing goes from the last digit to the first, as many as there are. Assumes nothing.
-use Rattle.std.proofs.Common.{get_or, eq-eqb, ℕ, zero, suc, ◌+◌, ◌*◌, ◌-◌, ◌≤◌, ◌<◌, ◌^◌, ◌/◌, ◌≡◌, refl, ap, ◌∙◌, Bool, true, false, ◌&&◌, cond, List, [], ◌∷◌, ◌++◌, pow-suc, arith, le-leb, leb-true, leb-false, lt-ltb, le-ltb, leb, ltb, length, length-append, Option, Some, None}
+use Rattle.std.proofs.Common.{get_or, eq-eqb, ℕ, zero, suc, ◌+◌, ◌*◌, ◌-◌, ◌≤◌, ◌<◌, ◌^◌, ◌/◌, ◌%◌, ◌≡◌, refl, ap, ◌∙◌, Bool, true, false, ◌&&◌, cond, List, [], ◌∷◌, ◌++◌, pow-suc, arith, le-leb, leb-true, leb-false, lt-ltb, le-ltb, leb, ltb, length, length-append, Option, Some, None}
 use mathlib.Core.Bool.{and-false}
 use Rattle.std.proofs.Math.Nat.{one-le-pow}
 use Rattle.std.proofs.Math.Seq.{slice}
@@ -133,6 +133,13 @@ decimal_above (suc k) (suc f) n l h =
     let p : 10 ^ k * 10 ≤ n = rw (pow-suc 10 k) at h in
     let o : 1 ≤ 10 ^ k = one-le-pow k 10 (omega arith) in
     rw (le-ltb n 10 (omega arith)) (omega (arith, length-append (decimal f (n / 10)) (digit n ∷ []), decimal_above k f (n / 10) (omega arith) (omega arith)))
+
+-- one digit
+pub one_digit : (n : ℕ) → n < 10 → print_number n ≡ (48 + n) ∷ []
+unfolding print_number
+one_digit n h =
+    let e : n % 10 ≡ n = omega arith in
+    rw (lt-ltb n 10 h, e) refl
 
 -- the digits of a number, by the power of ten that it is not below
 pub number-width : (k n : ℕ) → k < 20 → 10 ^ k ≤ n → n < 10 * 10 ^ k → k + 1 ≡ length (print_number n)

@@ -44,12 +44,16 @@ fn well_led(field: &[u8]) -> bool
     }
 }
 
-// How many bytes n takes in decimal.
+// How many bytes n takes in decimal. The activities of a net file have one digit or two, and a logarithm of each would take as long as
+// the rest of writing it.
 pub fn number_width(n: u64) -> usize
     ensures { result ≡ length (print_number n) }
 {
-    if n == 0 {
+    if n < 10 {
         return 1;
+    }
+    if n < 100 {
+        return 2;
     }
     n.ilog10() as usize + 1
 }

@@ -48,6 +48,10 @@ impl<'a> Out<'a> {
         requires { Room self.old (print_number n) }
         ensures { Appends self.old (print_number n) self.new }
     {
+        // Most numbers of a net file have one digit, and the loop over digits takes longer than all else that is done for it.
+        if n < 10 {
+            return self.bytes(&[b'0' + n as u8]);
+        }
         let end = self.len + number_width(n);
         fill_digits(&mut self.buf[self.len..end], n);
         self.len = end;

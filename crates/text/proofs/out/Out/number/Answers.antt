@@ -2,9 +2,15 @@
 use Rattle.std.proofs.Common.{◌+◌, ◌-◌, ◌≡◌, ◌∙◌, ap, refl, sym, length, take, drop, arith, length-drop}
 use Rattle.std.proofs.lemmas.List.{length-take-le}
 use Rattle.text.specs.Decimal.{last_digits, print_number}
-use Rattle.text.proofs.DigitLaws.{number_last}
+use Rattle.text.proofs.DigitLaws.{number_last, one_digit}
 use Rattle.text.proofs.WriteLaws.{appends_part}
 use Rattle.text.proofs.out.Out.number.Goals as goal
+
+pub bytes-requires : goal.bytes-requires
+bytes-requires c = rw (one_digit c.args.n c.if-n-lt10.true) at c.requires
+
+pub returns-then-n-lt10 : goal.returns-then-n-lt10
+returns-then-n-lt10 c = rw (one_digit c.args.n c.if-n-lt10.true) c.bytes.ensures
 
 pub returns : goal.returns
 returns c =
