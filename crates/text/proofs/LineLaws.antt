@@ -25,6 +25,19 @@ line_step s i t h e q l = omega (arith, l, line_more s i h (sym e ∙ q))
 pub line_none : (s : List ℕ) (k : ℕ) → length s ≤ k → line_length (drop k s) ≡ 0
 line_none s k h = rw (drop_of_length-le s h)
 
+-- one byte alone ends no line
+line_short : (s : List ℕ) → length s ≤ 1 → line_length s ≡ length s
+line_short [] h = refl
+line_short (a ∷ []) h = refl
+line_short (a ∷ b ∷ s) h = absurd (omega arith)
+
+-- a line that goes on up to the last byte goes on to the end
+pub line_whole : (s : List ℕ) (i : ℕ) → length s ≤ i + 1 → i ≤ length s → line_length s ≡ i + line_length (drop i s) → line_length s ≡ length s
+line_whole s i h u e =
+    let d = length-drop i s in
+    let r = line_short (drop i s) (omega (arith, d)) in
+    e ∙ omega (arith, r, d)
+
 -- ---- the lines from an index on
 
 lines_cons : (a : ℕ) (s : List ℕ) → lines (a ∷ s) ≡ take (line_length (a ∷ s)) (a ∷ s) ∷ lines (drop (line_length (a ∷ s) + 2) (a ∷ s))

@@ -15,22 +15,21 @@ returns-then-not-sizes_ok c =
     let q = next_unfit a.text.now k (length o) (sym c.if-not-sizes_ok.ensures) in
     rw c.at.ensures (record { reads = read_fault (read_next a.text.now k (length o)) _ o q; goes_on = cursor_fault a.text.now k (read_next a.text.now k (length o)) _ _ q })
 
-pub returns-in_err-here : goal.returns-in_err-here
-returns-in_err-here c =
+pub returns-in-Err : goal.returns-in-Err
+returns-in-Err c =
     let a = c.args in
     let k = a.cursor.now in
     let o = a.out.now in
-    let p = err_from_is_err_and c.from_residual.result c.from_residual.ensures.1 in
-    let q = next_differs a.text.now k (length o) (sym c.if-not-sizes_ok.ensures) c.in_err-here.ensures.1 in
-    rw (p.1, p.2, c.in_err-here.ensures.0) (record { reads = read_fault (read_next a.text.now k (length o)) _ o q; goes_on = cursor_fault a.text.now k (read_next a.text.now k (length o)) _ _ q })
+    let q = next_differs a.text.now k (length o) (sym c.if-not-sizes_ok.ensures) c.in-Err.ensures.1 in
+    rw c.in-Err.ensures.0 (record { reads = read_fault (read_next a.text.now k (length o)) _ o q; goes_on = cursor_fault a.text.now k (read_next a.text.now k (length o)) _ _ q })
 
 pub returns-then-here-text : goal.returns-then-here-text
 returns-then-here-text c =
     let a = c.args in
     let k = a.cursor.now in
     let o = a.out.now in
-    let here = c.in_ok-here.here in
-    let p = begun-passed a.text.now (standing a.text.now k) k.line here.at here.line (omega arith) c.in_ok-here.ensures.0 in
+    let here = c.in-Ok.here in
+    let p = begun-passed a.text.now (standing a.text.now k) k.line here.at here.line (omega arith) c.in-Ok.ensures.0 in
     let q = next_end a.text.now k (length o) (sym c.if-not-sizes_ok.ensures) here.at here.line p (omega (arith, c.if-here-text.true)) in
     record { reads = read_end (read_next a.text.now k (length o)) o q; goes_on = cursor_end a.text.now k (read_next a.text.now k (length o)) q }
 
@@ -39,11 +38,11 @@ returns-in_err-row c =
     let a = c.args in
     let k = a.cursor.now in
     let o = a.out.now in
-    let here = c.in_ok-here.here in
+    let here = c.in-Ok.here in
     let x = read_next a.text.now k (length o) in
-    let r = err_from_is_err_and c.from_residual-in_err-row.result c.from_residual-in_err-row.ensures.1 in
-    let p = begun-passed a.text.now (standing a.text.now k) k.line here.at here.line (omega arith) c.in_ok-here.ensures.0 in
-    let q = next_reads a.text.now k (length o) (sym c.if-not-sizes_ok.ensures) here.at here.line p c.split_line.result.0.now (omega (arith, c.in_ok-here.ensures.1, c.if-here-text.false)) (rw take_rest at c.split_line.ensures.line) ∙ c.in_err-row.ensures in
+    let r = err_from_is_err_and c.from_residual.result c.from_residual.ensures.1 in
+    let p = begun-passed a.text.now (standing a.text.now k) k.line here.at here.line (omega arith) c.in-Ok.ensures.0 in
+    let q = next_reads a.text.now k (length o) (sym c.if-not-sizes_ok.ensures) here.at here.line p c.split_line.result.0.now (omega (arith, c.in-Ok.ensures.1, c.if-here-text.false)) (rw take_rest at c.split_line.ensures.line) ∙ c.in_err-row.ensures in
     rw (r.1, r.2) (record { reads = read_fault x c.in_err-row.field-0.0 o q; goes_on = cursor_fault a.text.now k x _ _ q })
 
 pub fill_trace-requires : goal.fill_trace-requires
@@ -51,7 +50,7 @@ fill_trace-requires c = trace_fits (length c.args.out.now) c.in_ok-row.ensures (
 
 pub overflow_add-cursor : goal.overflow_add-cursor
 overflow_add-cursor c =
-    let w = line_row c.in_ok-here.here.line c.split_line.result.0.now _ _ c.in_ok-row.ensures.reads in
+    let w = line_row c.in-Ok.here.line c.split_line.result.0.now _ _ c.in_ok-row.ensures.reads in
     omega (arith, w.line_low)
 
 pub returns : goal.returns
@@ -59,10 +58,10 @@ returns c =
     let a = c.args in
     let k = a.cursor.now in
     let o = a.out.now in
-    let here = c.in_ok-here.here in
+    let here = c.in-Ok.here in
     let x = read_next a.text.now k (length o) in
-    let p = begun-passed a.text.now (standing a.text.now k) k.line here.at here.line (omega arith) c.in_ok-here.ensures.0 in
-    let q = next_reads a.text.now k (length o) (sym c.if-not-sizes_ok.ensures) here.at here.line p c.split_line.result.0.now (omega (arith, c.in_ok-here.ensures.1, c.if-here-text.false)) (rw take_rest at c.split_line.ensures.line) in
+    let p = begun-passed a.text.now (standing a.text.now k) k.line here.at here.line (omega arith) c.in-Ok.ensures.0 in
+    let q = next_reads a.text.now k (length o) (sym c.if-not-sizes_ok.ensures) here.at here.line p c.split_line.result.0.now (omega (arith, c.in-Ok.ensures.1, c.if-here-text.false)) (rw take_rest at c.split_line.ensures.line) in
     record {
       reads = read_given x here.line c.split_line.result.0.now c.in_ok-row.row c.in_ok-row.trace.now o c.fill_trace.new.out q c.in_ok-row.ensures c.fill_trace.ensures;
       goes_on = cursor_goes a.text.now k here.at here.line _ _ p x (q ∙ c.in_ok-row.ensures.reads) c.split_line.result.1.now (rw take_rest at c.split_line.ensures.rest);

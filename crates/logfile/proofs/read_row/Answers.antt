@@ -23,19 +23,18 @@ returns-then-row-eq0 c =
       | then-row-eq0-via-else-row-eq0+then-not-sizes_ok w ↦ row_unfit a.text.now a.row (length o) (sym w.if-not-sizes_ok.ensures)
     ]))
 
-pub returns-in_err-first : goal.returns-in_err-first
-returns-in_err-first c =
+pub returns-in-Err : goal.returns-in-Err
+returns-in-Err c =
     let a = c.args in
     let o = a.out.now in
-    let p = err_from_is_err_and c.from_residual.result c.from_residual.ensures.1 in
-    let b = start_stands a.text.now c.start.result _ c.start.ensures c.in_err-first.ensures.1 in
-    rw (p.1, p.2, c.in_err-first.ensures.0)
+    let b = start_stands a.text.now c.start.result _ c.start.ensures c.in-Err.ensures.1 in
+    rw c.in-Err.ensures.0
     (read_fault (read_row a.text.now a.row (length o)) _ o (row_start_lem a.text.now a.row (length o) (omega (arith, c.if-row-eq0.false)) (sym c.if-not-sizes_ok.ensures) ∙ begun_differs a.text.now 0 1 (a.row - 1) b))
 
 pub loop-number-init : goal.loop-number-init
 loop-number-init c =
     let a = c.args in
-    let f = c.in_ok-first in
+    let f = c.in-Ok in
     let b = start_stands a.text.now c.start.result _ c.start.ensures f.ensures.0 in
     let z = c.zip-number-items.ensures in
     let i = c.into_iter-number-iterator.ensures.into_iter_gives in
@@ -47,7 +46,7 @@ pub returns-in_err-read : goal.returns-in_err-read
 returns-in_err-read c =
     let a = c.args in
     let l = c.loop-number in
-    let p = err_from_is_err_and c.from_residual-in_err-read.result c.from_residual-in_err-read.ensures.1 in
+    let p = err_from_is_err_and c.from_residual.result c.from_residual.ensures.1 in
     rw (p.1, p.2, l.invariant.1)
     (read_fault (read_row a.text.now a.row (length a.out.now)) c.in_err-read.field-0.0 a.out.now
     (going_fault a.text.now a.row (length a.out.now) (lines_left l.number-iterator.b) c.in-Some.number (rw c.in-Some.ensures.steps.0.0 l.invariant.0) c.in-Some.line.now (lines_left c.next.new.self.b) c.in-Some.ensures.steps.1 _ _ c.in_err-read.ensures))
