@@ -49,10 +49,11 @@ fn argument<R: Env>(rt: &R, k: usize) -> Option<u32> {
     read_number(&digits[..n], u32::MAX)
 }
 
-// Makes a call so often, and prints its line.
+// Makes a call so often, and prints its line. The name comes first: what can't be read is said on standard error behind it.
 fn print_line<R: Files + Print + Eprint>(rt: &R, call: Call, count: u32) {
+    let _ = print!(rt; "{call:<10}");
     let sum = sum_of(rt, call, count);
-    let _ = println!(rt; "{call:<10}{sum}");
+    let _ = println!(rt; "{sum}");
 }
 
 // Makes a call so often, and returns the sum of its answers. Calls that grow a net start from a fresh one.

@@ -1,5 +1,7 @@
 // What a command answers, and how that is written.
 
+ghost use Rattle.std.specs.Prelude.{◌≡◌, MatchResult};
+
 use net::Refused;
 use std::fmt;
 
@@ -29,6 +31,7 @@ pub fn answered<'a, T, F>(called: Result<T, Refused>, value: F) -> Answer<'a>
 where
     F: FnOnce(T) -> Answer<'a>,
     requires { (v : _) → F.pre value v }
+    ensures { MatchResult called (λ v. F.post value v result) (λ r. result ≡ Answer.Refused r) }
 {
     match called {
         Ok(v) => value(v),
@@ -46,6 +49,10 @@ pub struct Reply<'a> {
 
 // The reply of a command that lends no buffer.
 impl<'a> From<Answer<'a>> for Reply<'a> {
+    ghost use Rattle.std.specs.Prelude.{◌≡◌, false};
+
+    ghost from_gives = { λ answer reply. reply ≡ record { answer = answer; changed = false } };
+
     fn from(answer: Answer<'a>) -> Reply<'a> {
         Reply {
             answer,
@@ -58,43 +65,66 @@ impl fmt::Display for Answer<'_> {
     fn fmt<W: fmt::Write>(&self, f: &mut fmt::Formatter<W>) -> fmt::Result {
         match *self {
             Answer::Done => write!(f, "ok"),
-            Answer::Value(value) => write!(f, "ok {value}"),
+            Answer::Value(value) => write_numbers(f, "ok", &[value]),
             Answer::Words(words) => {
                 write!(f, "words")?;
                 write_words(f, words)
             }
-            Answer::Shown(text) => write!(f, "text {}", text.len()),
+            Answer::Shown(text) => write_numbers(f, "text", &[text.len() as u64]),
             Answer::Found { trials, sequence } => {
-                write!(f, "found {trials}")?;
+                write_numbers(f, "found", &[trials])?;
                 write_words(f, sequence)
             }
-            Answer::Failed { trials } => write!(f, "none {trials}"),
-            Answer::Spent { trials } => write!(f, "spent {trials}"),
+            Answer::Failed { trials } => write_numbers(f, "none", &[trials]),
+            Answer::Spent { trials } => write_numbers(f, "spent", &[trials]),
             Answer::Row { sessions, trace } => {
-                write!(f, "row {sessions} {}", trace.len())?;
+                write_numbers(f, "row", &[u64::from(sessions), trace.len() as u64])?;
                 write_words(f, trace)
             }
             Answer::End => write!(f, "end"),
-            Answer::Share(q, r, spent) => write!(f, "ok {q} {r} {spent}"),
-            Answer::Refused(refused) => write!(f, "{refused}"),
+            Answer::Share(q, r, spent) => write_numbers(f, "ok", &[q, r, spent]),
+            Answer::Refused(Refused { refusal, place }) => {
+                write_numbers(
+                    f,
+                    "refused",
+                    &[u64::from(refusal.number()), u64::from(place)],
+                )
+            }
         }
     }
 }
 
+// A reply's line, with its end. Word, space, number and end are a piece each, but for the line of a command that is done: the output's
+// buffer is written when a piece no longer fits, so where the pieces part is seen where an output fails.
 impl fmt::Display for Reply<'_> {
     fn fmt<W: fmt::Write>(&self, f: &mut fmt::Formatter<W>) -> fmt::Result {
-        write!(f, "{}", self.answer)?;
-        if self.changed {
-            write!(f, " changed")?;
+        if let (Answer::Done, false) = (self.answer, self.changed) {
+            return f.write_str("ok\n");
         }
-        Ok(())
+        write!(f, "{}", self.answer)?;
+        f.write_str(if self.changed { " changed\n" } else { "\n" })
     }
+}
+
+// A word and numbers, each with a space before it.
+fn write_numbers<W: fmt::Write>(
+    f: &mut fmt::Formatter<W>,
+    word: &str,
+    numbers: &[u64],
+) -> fmt::Result {
+    f.write_str(word)?;
+    for number in numbers {
+        f.write_str(" ")?;
+        write!(f, "{number}")?;
+    }
+    Ok(())
 }
 
 // Words, each with a space before it.
 fn write_words<W: fmt::Write>(f: &mut fmt::Formatter<W>, words: &[u32]) -> fmt::Result {
     for word in words {
-        write!(f, " {word}")?;
+        f.write_str(" ")?;
+        write!(f, "{word}")?;
     }
     Ok(())
 }

@@ -39,7 +39,7 @@ impl<'a, R: Print + Eprint> Output<'a, R> {
     // Adds a reply's line, and the bytes that it shows with the end of a line behind them.
     fn reply(&mut self, reply: Reply) {
         // Adding never fails.
-        let _ = writeln!(self, "{reply}");
+        let _ = write!(self, "{reply}");
         if let Answer::Shown(text) = reply.answer {
             self.bytes(text);
             self.bytes(b"\n");

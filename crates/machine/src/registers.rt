@@ -8,7 +8,7 @@ use crate::answer::Answer;
 use net::{LISTS, Net, PLACES, Refused, Returned, Sides};
 
 // So many registers there are.
-const REGISTERS: usize = 4;
+pub const REGISTERS: usize = 4;
 
 // So many words a record's lists have.
 const LIST_WORDS: usize = 2 * LISTS + 4 * PLACES;
@@ -28,7 +28,11 @@ pub struct Register {
 pub struct NoRegister;
 
 impl TryFrom<u64> for Register {
+    ghost use Rattle.std.specs.Prelude.{◌≡◌, ◌≤◌, MatchResult};
+
     type Error = NoRegister;
+
+    ghost try_from_gives = { λ number r. MatchResult r (λ register. register.index ≡ number) (λ _. REGISTERS ≤ number) };
 
     fn try_from(number: u64) -> Result<Register, NoRegister> {
         let index = number as usize;

@@ -14,7 +14,7 @@ const TEXT_ROOM: usize = LOG_BYTES + 1;
 // Room for the longest buffers that are lent to a call.
 const WORD_ROOM: usize = 4096;
 
-const BYTE_ROOM: usize = NET_BYTES;
+pub const BYTE_ROOM: usize = NET_BYTES;
 
 // The registers, and the buffers of which parts are lent to calls.
 #[derive(Drop)]

@@ -3,7 +3,7 @@
 ghost use Rattle.std.specs.Prelude.{◌≤◌, length};
 
 use crate::script::Script;
-use crate::state::Text;
+use crate::state::{BYTE_ROOM, Text};
 use logfile::Row;
 use machine::answer::{Answer, Reply, answered};
 use machine::buffers::{fill, is_untouched};
@@ -34,7 +34,12 @@ pub fn writenet(
         return None;
     };
     let r = Register::try_from(r).ok()?;
-    let lent = bytes.get_mut(..room as usize)?;
+    // By comparisons and no `get_mut`, and with the most that there are too: so the compiler knows that a place has 32 bits, and takes
+    // remainders of it in half the time.
+    if (BYTE_ROOM as u64) < room || (bytes.len() as u64) < room {
+        return None;
+    }
+    let lent = &mut bytes[..room as usize];
     fill(lent);
     let written = netfile::write_net(*registers.get(r), lent);
     let length = written.map_or(0, |n| n as usize);
