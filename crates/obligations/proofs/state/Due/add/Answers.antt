@@ -1,7 +1,7 @@
 -- `add` meets its contract: one is added at the places of the outputs. Assumes nothing.
-use Rattle.obligations.specs.State.{added}
+use Rattle.obligations.specs.State.{outputs, added}
 use Rattle.obligations.proofs.state.Due.add.Goals as goal
 
 pub returns : goal.returns
-unfolding added
+unfolding added outputs
 returns c = cc
