@@ -54,7 +54,7 @@ pub fn read_row(text: &[u8], row: u64, out: &mut [u32]) -> Result<Option<Row>, R
     if row == 0 || !sizes_ok(text, out.len()) {
         return Err(Refusal::OutsideLimits.at(0));
     }
-    // By `match`, here and in `read_at`. Tried: by `?` a row of few entries takes up to three times as long there, and the first row half
+    // By `match`, here and in `read_at`. Tried: by `?` a row of few entries takes two to three times as long there, and the first row half
     // as long again here.
     let first = match begin(text, start()) {
         Ok(first) => first,

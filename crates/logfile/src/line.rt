@@ -16,7 +16,7 @@ pub fn row_line(number: u32, line: &[u8]) -> Result<(Row, &[u8]), Refused>
     ensures { MatchResult result (λ p. RowOnLine number line.now p.0 p.1.now) (λ r. read_line number line.now ≡ fault_of r) }
 {
     // The fields and the length by `let .. else`. Tried: by `ok_or` and `?`, where what holds a slice or a `usize` is put together on the
-    // stack, a row of few entries takes up to five times as long.
+    // stack, a row of few entries takes two to three times as long.
     let Some((first, trace)) = two_fields(line) else {
         return Err(Refusal::LineForm.at(number));
     };

@@ -1,4 +1,4 @@
--- `is_untouched` meets its contract: the elements from `from` on and below k are untouched.
+-- `is_untouched` meets its contract: the elements from `from` on and below k are untouched. Assumes nothing.
 use Rattle.std.proofs.Common.{ℕ, ◌≡◌, ◌<◌, ◌≤◌, true, get_or}
 use Rattle.machine.proofs.buffers.is_untouched.Given as goal
 
