@@ -114,8 +114,7 @@ fn write_numbers<W: fmt::Write>(
 ) -> fmt::Result {
     f.write_str(word)?;
     for number in numbers {
-        f.write_str(" ")?;
-        write!(f, "{number}")?;
+        write_number(f, *number)?;
     }
     Ok(())
 }
@@ -123,8 +122,13 @@ fn write_numbers<W: fmt::Write>(
 // Words, each with a space before it.
 fn write_words<W: fmt::Write>(f: &mut fmt::Formatter<W>, words: &[u32]) -> fmt::Result {
     for word in words {
-        f.write_str(" ")?;
-        write!(f, "{word}")?;
+        write_number(f, u64::from(*word))?;
     }
     Ok(())
+}
+
+// A number with a space before it.
+fn write_number<W: fmt::Write>(f: &mut fmt::Formatter<W>, number: u64) -> fmt::Result {
+    f.write_str(" ")?;
+    write!(f, "{number}")
 }

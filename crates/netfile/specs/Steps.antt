@@ -7,8 +7,7 @@ use Rattle.net.specs.Fresh.{fresh_net}
 use Rattle.net.specs.declared.Net.{Net}
 use Rattle.net.specs.declared.refusal.Refusal.{Refusal}
 use Rattle.net.specs.declared.refusal.Refused.{Refused}
-use Rattle.netfile.specs.Limits.{net_bytes}
-use Rattle.netfile.specs.NetFile.{row_says, row_gives, read_rows, from_start, read_net}
+use Rattle.netfile.specs.NetFile.{FileReading, row_says, row_gives, read_rows}
 use Rattle.netfile.specs.declared.line.SetRow.{SetRow}
 
 -- what line n answers, with its number where it is refused
@@ -16,17 +15,11 @@ abbrev pub on_line : {T : Type 0} → ℕ → Result T Refusal → Result T Refu
 on_line n (Ok v) = Ok v
 on_line n (Err r) = Err (with_place r n)
 
--- a start and an end were read from line 2 on, and the text of the rows is left
-pub record EndsRead (text : List ℕ) (start end : ℕ) (rows : List ℕ) : Type 0 where
+-- of what is to be read a start and an end were read, and the text of the rows is left, which has at most so many bytes
+pub record EndsRead (reading : FileReading) (most start end : ℕ) (rows : List ℕ) : Type 0 where
   pub ends : ends_ok start end ≡ true
-  pub short : length rows ≤ length text
-  pub left : read_rows 4 (fresh_net start end) (lines rows) ≡ from_start (lines text)
-
--- the same was read from line 1 on
-pub record HeadRead (text : List ℕ) (start end : ℕ) (rows : List ℕ) : Type 0 where
-  pub ends : ends_ok start end ≡ true
-  pub short : length rows ≤ net_bytes
-  pub left : read_rows 4 (fresh_net start end) (lines rows) ≡ read_net text
+  pub short : length rows ≤ most
+  pub left : read_rows 4 (fresh_net start end) (lines rows) ≡ reading
 
 -- what was read of a row was put into a net
 pub record PutRow (net : Net) (row : Result SetRow Refusal) (r : Result ⊤ Refusal) (net' : Net) : Type 0 where

@@ -8,7 +8,7 @@ ghost use Rattle.net.specs.Orderly.{ends_ok, orderly};
 ghost use Rattle.net.specs.Fresh.{fresh_net};
 ghost use Rattle.netfile.specs.Limits.{net_bytes};
 ghost use Rattle.netfile.specs.NetFile.{Reads, refused_with, read_as, read_rows, read_set_row, from_start, read_net};
-ghost use Rattle.netfile.specs.Steps.{EndsRead, HeadRead, on_line, PutRow};
+ghost use Rattle.netfile.specs.Steps.{EndsRead, on_line, PutRow};
 
 use crate::NET_BYTES;
 use crate::line::{SetRow, end_line, row_line};
@@ -16,8 +16,8 @@ use net::putting::put_side;
 use net::{Net, Refusal, Refused, Returned, fresh};
 use text::lines::{lines_of, split_line};
 
-// Reads a net file. Here and in `read_from` a refusal returns at once and the net is made in what is returned. Where both come together in
-// one value, tried, a net more is zeroed and copied, which takes half as long again as reading a small net does.
+// Reads a net file. Here and in `read_from` a refusal returns at once and the net is made in what is returned. Tried: where both come
+// together in one value a net more is zeroed and copied, and a small net takes nearly half as long again to read.
 pub fn read_net(text: &[u8]) -> Returned<()>
     ensures { Reads (read_net text.now) result }
 {
@@ -40,7 +40,7 @@ pub fn refused_reading(refused: Refused) -> Returned<()>
 
 // The start and the end, which the first three lines say, and what is behind these.
 fn read_head(text: &[u8]) -> Result<(u32, u32, &[u8]), Refused>
-    ensures { MatchResult result (λ h. HeadRead text.now h.0 h.1 h.2.now) (λ r. refused_with r ≡ read_net text.now) }
+    ensures { MatchResult result (λ e. EndsRead (read_net text.now) net_bytes e.0 e.1 e.2.now) (λ r. refused_with r ≡ read_net text.now) }
 {
     if NET_BYTES < text.len() {
         return Err(Refusal::OutsideLimits.at(0));
@@ -67,7 +67,7 @@ fn read_from(start: u32, end: u32, rows: &[u8]) -> Returned<()>
 
 // The start and the end, which lines 2 and 3 say, and what is behind them. A line that is missing reads as an empty one: 13.
 fn read_ends(text: &[u8]) -> Result<(u32, u32, &[u8]), Refused>
-    ensures { MatchResult result (λ e. EndsRead text.now e.0 e.1 e.2.now) (λ r. refused_with r ≡ from_start (lines text.now)) }
+    ensures { MatchResult result (λ e. EndsRead (from_start (lines text.now)) (length text.now) e.0 e.1 e.2.now) (λ r. refused_with r ≡ from_start (lines text.now)) }
 {
     let (line, rest) = split_line(text);
     let start = on_line(2, end_line(line, b"start"))?;

@@ -25,6 +25,7 @@ pub fn replay(net: Net, trace: &[u32], budget: u64, out: &mut [u32]) -> Result<O
     if let Some(place) = trace::first_no_activity(trace, 1, trace.len()) {
         return Err(Refusal::NoActivity.at(place));
     }
+    // By `match` and not by `?`, so that the edit that calls 19 by another number changes a value here, and not the form.
     match check_lent(&net) {
         Ok(_) => Ok(replay_lent(&net, trace, budget, out)),
         Err(refused) => Err(refused),

